@@ -1,0 +1,1 @@
+// Mathematics only: see specs/.

@@ -1,0 +1,6 @@
+pub mod Filling
+pub mod Matrices
+pub mod Products
+pub mod Rows
+pub mod Inversion
+pub mod Zeros

@@ -1,0 +1,122 @@
+// Field matrices by value: twelve rows of twelve residues, with rows and columns from n on zero.
+ghost use mathlib.Core.Path.{_≡_};
+ghost use mathlib.Core.List.{List, []};
+ghost use Prim.Native.Nat.{ℕ, _*_, _%_, _≤_, _<_};
+ghost use lib.ListN.{getD};
+ghost use Rattle.forms.specs.Numbers.{total, order-limit};
+ghost use Rattle.matrices.specs.Matrices.{cell};
+ghost use Rattle.matrices.specs.Products.{product-row, Multiplied};
+ghost use Rattle.matrices.specs.Rows.{unit-row, IsIdentity};
+ghost use Rattle.matrices.specs.Zeros.{zero-entries, is-zero};
+
+pub mod inversion;
+
+// The largest order.
+pub const ORDER: usize = 12;
+
+pub type Row = [u8; ORDER];
+
+pub type Mat = [Row; ORDER];
+
+pub fn wide(x: u8) -> u32
+    ensures { λ r. ⌜ (r ≡ x) × (r ≤ 255) ⌝ }
+{
+    x as u32
+}
+
+// Row v times column j of b.
+fn inner_product(v: Row, b: Mat, j: usize, n: usize, p: u8) -> u8
+    requires { ⌜ (n ≤ order-limit) × (j < order-limit) × (0 < p) ⌝ }
+    ensures { λ r. ⌜ r ≡ total n (λ k. getD v k 0 * cell b k j) % p ⌝ }
+{
+    let mut sum: u32 = 0;
+    let mut k = 0;
+    while k < n {
+        let x = wide(v[k]);
+        let y = wide(b[k][j]);
+        sum = sum + x * y;
+        k = k + 1;
+    }
+    (sum % (p as u32)) as u8
+}
+
+// Row v times b.
+pub fn product_row(v: Row, b: Mat, n: usize, p: u8) -> Row
+    requires { ⌜ (n ≤ order-limit) × (0 < p) ⌝ }
+    ensures { λ r. ⌜ r ≡ product-row p n v b ⌝ }
+{
+    let mut r = [0u8; ORDER];
+    let mut j = 0;
+    while j < n {
+        r[j] = inner_product(v, b, j, n, p);
+        j = j + 1;
+    }
+    r
+}
+
+// a b
+pub fn product(a: Mat, b: Mat, n: usize, p: u8) -> Mat
+    requires { ⌜ (n ≤ order-limit) × (0 < p) ⌝ }
+    ensures { λ r. ⌜ Multiplied p n a b r ⌝ }
+{
+    let mut r = [[0u8; ORDER]; ORDER];
+    let mut i = 0;
+    while i < n {
+        r[i] = product_row(a[i], b, n, p);
+        i = i + 1;
+    }
+    r
+}
+
+// Row i of E.
+pub fn unit_row(i: usize) -> Row
+    requires { ⌜ i < order-limit ⌝ }
+    ensures { λ r. ⌜ r ≡ unit-row i ⌝ }
+{
+    let mut r = [0u8; ORDER];
+    r[i] = 1;
+    r
+}
+
+// E
+pub fn identity(n: usize) -> Mat
+    requires { ⌜ n ≤ order-limit ⌝ }
+    ensures { λ r. ⌜ IsIdentity n r ⌝ }
+{
+    let mut e = [[0u8; ORDER]; ORDER];
+    let mut i = 0;
+    while i < n {
+        e[i] = unit_row(i);
+        i = i + 1;
+    }
+    e
+}
+
+fn is_zero_row(v: Row, n: usize) -> bool
+    requires { ⌜ n ≤ order-limit ⌝ }
+    ensures { λ r. ⌜ r ≡ zero-entries n v ⌝ }
+{
+    let mut j = 0;
+    while j < n {
+        if v[j] != 0 {
+            return false;
+        }
+        j = j + 1;
+    }
+    true
+}
+
+// Whether m is zero, which no inverse is.
+pub fn is_zero(m: Mat, n: usize) -> bool
+    requires { ⌜ n ≤ order-limit ⌝ }
+    ensures { λ r. ⌜ r ≡ is-zero n m ⌝ }
+{
+    let mut i = 0;
+    while i < n {
+        if !is_zero_row(m[i], n) {
+            return false;
+        }
+        i = i + 1;
+    }
+    true
+}

@@ -1,0 +1,4 @@
+pub mod Primes
+pub mod Table
+pub mod Euclid
+pub mod Answer
