@@ -1,4 +1,8 @@
-// The answers of the public operations, as types. What each case means as a number and a place stands in specs/Answers.antt.
+// The largest order, and the answers of the public operations as types. What each case of an answer means as a number and a place
+// stands in specs/Answers.antt.
+
+// A matrix has at most this many rows; the definitions' `order-limit` is the same number.
+pub const ORDER: usize = 12;
 
 // A form fault carries an offset (n or p in its stead for 1 and 2), a rule fault the rule.
 pub enum Fault {

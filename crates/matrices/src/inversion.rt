@@ -8,10 +8,10 @@ ghost use Rattle.forms.specs.Numbers.{prime, order-limit};
 ghost use Rattle.matrices.specs.Rows.{plus-row, RowAdded};
 ghost use Rattle.matrices.specs.Inversion.{PlaceReady, PlacedIn, Pivot, PivotReady, Cleared, Inverted};
 use crate::Mat;
-use crate::ORDER;
 use crate::Row;
 use crate::identity;
 use crate::unit_row;
+use forms::ORDER;
 use residues::residue::plus_multiple;
 use residues::residue::reciprocal_of;
 

@@ -8,11 +8,9 @@ ghost use Rattle.matrices.specs.Matrices.{cell};
 ghost use Rattle.matrices.specs.Products.{product-row, Multiplied};
 ghost use Rattle.matrices.specs.Rows.{unit-row, IsIdentity};
 ghost use Rattle.matrices.specs.Zeros.{zero-entries, is-zero};
+use forms::ORDER;
 
 pub mod inversion;
-
-// The largest order.
-pub const ORDER: usize = 12;
 
 pub type Row = [u8; ORDER];
 

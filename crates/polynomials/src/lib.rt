@@ -11,7 +11,7 @@ ghost use Rattle.polynomials.specs.Canonical.{coefficient-limit, polynom
 ghost use Rattle.polynomials.specs.Taking.{TrimmedFrom, TakenFrom};
 ghost use Rattle.polynomials.specs.Subtraction.{Lessened};
 ghost use Rattle.polynomials.specs.LongDivision.{Divided};
-use matrices::ORDER;
+use forms::ORDER;
 use residues::residue::plus_multiple;
 use residues::residue::reciprocal_of;
 

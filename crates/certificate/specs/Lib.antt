@@ -1,0 +1,5 @@
+pub mod Sizes
+pub mod ReadRecords
+pub mod Found
+pub mod Put
+pub mod Written
