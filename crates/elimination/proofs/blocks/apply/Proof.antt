@@ -1,0 +1,47 @@
+use borrow.Author.Needs.{needs}
+use native.Mathlib.Omega.{arith}
+use Prim.Native.Nat.{ℕ, suc, _≤_, _<_, _-_, _+_, _*_, _%_}
+use mathlib.Core.Path.{_≡_, refl, sym, _∙_, ap}
+use mathlib.Core.List.{[]}
+use lib.ListN.{getD, set, length}
+use Rattle.matrices.specs.Filling.{filled, fill-start, fill-turn, fill-end}
+use Rattle.matrices.specs.Matrices.{cell, zero-row, zero-rows}
+use Rattle.elimination.specs.Steps.{entry-of}
+use Rattle.elimination.proofs.blocks.apply.Statement.{statement}
+use Rattle.elimination.proofs.blocks.apply.Tie as tie
+
+abbrev Inv-loop : tie.InvT-loop
+Inv-loop g n p b r₀ i₀ r i = (i ≤ n) × (r ≡ filled i (λ i. entry-of p n (getD b i []) g) zero-row)
+
+abbrev μ-loop : tie.MeasureT-loop
+μ-loop g n p b r₀ i₀ r i = n - i
+
+loop-holds : tie.Need-loop-holds Inv-loop μ-loop
+loop-holds c = (search needs, fill-start _ _)
+
+mul-inner : tie.Need-mul-inner Inv-loop μ-loop
+mul-inner c = search needs
+
+array-copy-out-inner : tie.Need-array-copy-out-inner Inv-loop μ-loop
+array-copy-out-inner c = search needs
+
+inner-requires : tie.Need-inner-requires Inv-loop μ-loop
+inner-requires c κs = search needs
+
+array-write-r : tie.Need-array-write-r Inv-loop μ-loop
+array-write-r c = search needs
+
+add-i : tie.Need-add-i Inv-loop μ-loop
+add-i c = search needs
+
+loop-less : tie.Need-loop-less Inv-loop μ-loop
+loop-less c = search needs
+
+loop-again : tie.Need-loop-again Inv-loop μ-loop
+loop-again c = (search needs, fill-turn _ _ _ (search needs) (c .before .before .before .loop .inv .1) (c .inner .ensures))
+
+returns : tie.Need-returns Inv-loop μ-loop
+returns c = fill-end _ _ (c .before .loop .inv .1) (c .before .loop .inv .0) (c .loop-test .left)
+
+pub apply-spec : {M : Type 1} → statement M
+apply-spec = tie.close (tie.spec Inv-loop μ-loop loop-holds mul-inner array-copy-out-inner inner-requires array-write-r add-i loop-less loop-again returns)

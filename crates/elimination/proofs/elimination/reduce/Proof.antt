@@ -1,0 +1,63 @@
+use borrow.Author.Needs.{needs}
+use native.Mathlib.Omega.{arith}
+use Prim.Native.Nat.{ℕ, suc, _≤_, _<_, _-_, _+_, _*_, _%_}
+use mathlib.Core.Path.{_≡_, refl, sym, _∙_, ap}
+use mathlib.Core.List.{[]}
+use lib.ListN.{getD, set, length}
+use Rattle.algebra.specs.Modular.{modulo}
+use Rattle.elimination.specs.State.{frame, frame-within, Fields, Given, given-whole, given-next, prime-positive, field-row}
+use Rattle.matrices.specs.Matrices.{matrix, matrix-within}
+use Rattle.forms.specs.Primes.{prime-means}
+use Rattle.elimination.specs.Form.{Stage, stage-start}
+use Rattle.elimination.specs.Turns.{turned-fields}
+use Rattle.elimination.specs.Probe.{Split}
+use Rattle.elimination.specs.Blocking.{split-reach, stage-next}
+use Rattle.elimination.specs.Reduced.{reduced}
+use Rattle.elimination.proofs.elimination.reduce.Statement.{statement}
+use Rattle.elimination.proofs.elimination.reduce.Tie as tie
+
+abbrev Inv-loop : tie.InvT-loop
+Inv-loop n p s₀ k₀ s k = (k ≤ n) × Fields p n s × Stage (modulo p) n k (matrix p n (getD s₀ 0 [])) (frame p n s)
+
+abbrev μ-loop : tie.MeasureT-loop
+μ-loop n p s₀ k₀ s k = k
+
+-- the block that was split off, with its length read off the matrix
+found : (c : tie.After-reach Inv-loop μ-loop) → Split (modulo (c .before .before .before .before .before .before .args .p)) (c .before .before .before .before .before .before .args .n) (c .before .before .before .before .loop .k) (frame (c .before .before .before .before .before .before .args .p) (c .before .before .before .before .before .before .args .n) (c .before .before .before .before .loop .s)) (c .reach .result) (frame (c .before .before .before .before .before .before .args .p) (c .before .before .before .before .before .before .args .n) (c .before .before .split .result))
+found c = split-reach (c .before .before .before .before .before .before .args .p) (c .before .before .before .before .before .before .args .n) (c .before .before .before .before .loop .k) (c .before .before .before .before .loop .s) (c .before .before .split .result)
+  (record { order = c .before .before .before .before .before .before .pre .0; fits = c .before .before .before .before .loop .inv .0; prime-p = c .before .before .before .before .before .before .pre .1; fields = c .before .before .split .ensures .0 }) (c .before .before .split .ensures .1) (c .reach .result) (c .reach .ensures)
+
+identity-requires : tie.Need-identity-requires Inv-loop μ-loop
+identity-requires c κs = search needs
+
+loop-holds : tie.Need-loop-holds Inv-loop μ-loop
+loop-holds c = (search needs, record { B = c .before .pre .2; T = c .identity .ensures .field _ (prime-means _ (c .before .pre .1) .large); I = c .identity .ensures .field _ (prime-means _ (c .before .pre .1) .large) },
+  stage-start _ _ _ _ (matrix-within _ _ (c .before .args .a)) refl (c .identity .ensures .is _) (c .identity .ensures .is _))
+
+split-requires : tie.Need-split-requires Inv-loop μ-loop
+split-requires c κs = (record { order = c .before .before .before .pre .0; fits = c .before .loop .inv .0; prime-p = c .before .before .before .pre .1; fields = c .before .loop .inv .1 }, search needs, c .before .loop .inv .2 .window)
+
+array-copy-out-reach : tie.Need-array-copy-out-reach Inv-loop μ-loop
+array-copy-out-reach c = search needs
+
+reach-requires : tie.Need-reach-requires Inv-loop μ-loop
+reach-requires c κs = (search needs, c .before .before .before .loop .inv .0, c .before .before .before .before .before .pre .0)
+
+rotate-requires : tie.Need-rotate-requires Inv-loop μ-loop
+rotate-requires c κs = (c .before .before .before .before .before .before .pre .0, found c .headed .fits, c .before .before .before .before .loop .inv .0)
+
+sub-k : tie.Need-sub-k Inv-loop μ-loop
+sub-k c = found (c .before) .headed .fits
+
+loop-less : tie.Need-loop-less Inv-loop μ-loop
+loop-less c = omega (arith, found (c .before) .headed .fits, found (c .before) .headed .some)
+
+loop-again : tie.Need-loop-again Inv-loop μ-loop
+loop-again c = (omega (arith, c .before .before .before .before .before .loop .inv .0), rw (c .rotate .ensures) (turned-fields _ _ _ _ (found (c .before) .headed .fits) (c .before .before .before .before .before .loop .inv .0) (c .before .before .before .split .result) (c .before .before .before .split .ensures .0)),
+  rw (c .rotate .ensures) (stage-next _ _ _ _ _ (c .before .before .before .before .before .loop .s) (c .before .before .before .split .result) (c .before .before .before .before .before .loop .inv .0) (c .before .before .before .before .before .loop .inv .2) (found (c .before))))
+
+returns : tie.Need-returns Inv-loop μ-loop
+returns c = let e : c .before .loop .k ≡ 0 = omega arith in reduced _ _ (c .before .before .before .args .a) (c .before .loop .s) (c .before .loop .inv .1) (rw e at (c .before .loop .inv .2))
+
+pub reduce-spec : {M : Type 1} → statement M
+reduce-spec = tie.close (tie.spec Inv-loop μ-loop identity-requires loop-holds split-requires array-copy-out-reach reach-requires rotate-requires sub-k loop-less loop-again returns)

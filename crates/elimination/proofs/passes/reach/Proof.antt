@@ -1,0 +1,56 @@
+use borrow.Author.Needs.{needs}
+use native.Mathlib.Omega.{arith}
+use Prim.Native.Nat.{ℕ, suc, _≤_, _<_, _-_, _+_, _*_, _%_}
+use mathlib.Core.Path.{_≡_, refl, sym, _∙_, ap}
+use mathlib.Core.List.{[]}
+use lib.ListN.{getD, set, length}
+use Rattle.algebra.specs.Modular.{modulo}
+use Rattle.elimination.specs.State.{frame, frame-within, Fields, Given, given-whole, given-next, prime-positive, field-row}
+use Rattle.elimination.specs.Pass.{Passed, passed-start}
+use Rattle.elimination.specs.Searches.{column-of-row, HasPivot}
+use Rattle.elimination.specs.Passing.{units-nonzero, pull-none, pull-some, push-some, push-nonzero, chain-turn, chain-end, reach-pivot, reach-turn, reach-stops, reach-ends}
+use mathlib.Core.Logic.{_≢_}
+use Rattle.elimination.proofs.passes.reach.Statement.{statement}
+use Rattle.elimination.proofs.passes.reach.Tie as tie
+
+abbrev Inv-loop : tie.InvT-loop
+Inv-loop b k n j₀ j = (j < k) × ((i : ℕ) → i < j → HasPivot k b i)
+
+abbrev μ-loop : tie.MeasureT-loop
+μ-loop b k n j₀ j = k - j
+
+loop-holds : tie.Need-loop-holds Inv-loop μ-loop
+loop-holds c = (search needs, λ i l. absurd (omega arith))
+
+add-loop : tie.Need-add-loop Inv-loop μ-loop
+add-loop c = search needs
+
+column-requires : tie.Need-column-requires Inv-loop μ-loop
+column-requires c κs = search needs
+
+add-first-nonzero : tie.Need-add-first-nonzero Inv-loop μ-loop
+add-first-nonzero c = search needs
+
+first-nonzero-requires : tie.Need-first-nonzero-requires Inv-loop μ-loop
+first-nonzero-requires c κs = search needs
+
+add-result : tie.Need-add-result Inv-loop μ-loop
+add-result c = search needs
+
+returns : tie.Need-returns Inv-loop μ-loop
+returns c = reach-stops _ _ _ _ (c .before .before .before .before .before .args .b) _ (search needs) (search needs) (c .before .before .column .ensures) (c .before .first-nonzero .ensures) (c .if1 .taken) (c .before .before .before .before .loop .inv .1)
+
+add-j : tie.Need-add-j Inv-loop μ-loop
+add-j c = search needs
+
+loop-less : tie.Need-loop-less Inv-loop μ-loop
+loop-less c = search needs
+
+loop-again : tie.Need-loop-again Inv-loop μ-loop
+loop-again c = (search needs, reach-turn _ _ (c .before .before .before .before .before .args .b) (c .before .before .before .before .loop .inv .1) (reach-pivot _ _ _ _ (c .before .before .before .before .before .args .b) _ (search needs) (c .before .before .column .ensures) (c .before .first-nonzero .ensures) (c .if1 .left)))
+
+returns-2 : tie.Need-returns-2 Inv-loop μ-loop
+returns-2 c = reach-ends _ _ (c .before .before .args .b) (c .before .loop .inv .0) (c .loop-test .left) (c .before .loop .inv .1)
+
+pub reach-spec : {M : Type 1} → statement M
+reach-spec = tie.close (tie.spec Inv-loop μ-loop loop-holds add-loop column-requires add-first-nonzero first-nonzero-requires add-result returns add-j loop-less loop-again returns-2)

@@ -1,0 +1,51 @@
+use borrow.Author.Needs.{needs}
+use native.Mathlib.Omega.{arith}
+use Prim.Native.Nat.{ℕ, suc, _≤_, _<_, _-_, _+_, _*_, _%_}
+use mathlib.Core.Path.{_≡_, refl, sym, _∙_, ap}
+use mathlib.Core.List.{[]}
+use lib.ListN.{getD, set, length}
+use Rattle.matrices.specs.Filling.{filled, fill-start, fill-turn, fill-end}
+use Rattle.matrices.specs.Matrices.{cell, zero-row, zero-rows}
+use Rattle.elimination.specs.Rotation.{rotation}
+use Rattle.elimination.specs.Turns.{turned-row}
+use Rattle.elimination.proofs.turning.turn_columns.Statement.{statement}
+use Rattle.elimination.proofs.turning.turn_columns.Tie as tie
+
+abbrev Inv-loop : tie.InvT-loop
+Inv-loop m k n x r₀ i₀ r i = (i ≤ n) × (r ≡ filled i (λ i. turned-row n m k (getD x i [])) zero-rows)
+
+abbrev μ-loop : tie.MeasureT-loop
+μ-loop m k n x r₀ i₀ r i = n - i
+
+loop-holds : tie.Need-loop-holds Inv-loop μ-loop
+loop-holds c = (search needs, fill-start _ _)
+
+mul-turn-row : tie.Need-mul-turn-row Inv-loop μ-loop
+mul-turn-row c = search needs
+
+array-copy-out-turn-row : tie.Need-array-copy-out-turn-row Inv-loop μ-loop
+array-copy-out-turn-row c = search needs
+
+turn-row-requires : tie.Need-turn-row-requires Inv-loop μ-loop
+turn-row-requires c κs = search needs
+
+mul-r : tie.Need-mul-r Inv-loop μ-loop
+mul-r c = search needs
+
+array-set-from-r : tie.Need-array-set-from-r Inv-loop μ-loop
+array-set-from-r c = search needs
+
+add-i : tie.Need-add-i Inv-loop μ-loop
+add-i c = search needs
+
+loop-less : tie.Need-loop-less Inv-loop μ-loop
+loop-less c = search needs
+
+loop-again : tie.Need-loop-again Inv-loop μ-loop
+loop-again c = (search needs, fill-turn _ _ _ (search needs) (c .before .before .before .loop .inv .1) (c .turn-row .ensures))
+
+returns : tie.Need-returns Inv-loop μ-loop
+returns c = fill-end _ _ (c .before .loop .inv .1) (c .before .loop .inv .0) (c .loop-test .left)
+
+pub turn-columns-spec : {M : Type 1} → statement M
+turn-columns-spec = tie.close (tie.spec Inv-loop μ-loop loop-holds mul-turn-row array-copy-out-turn-row turn-row-requires mul-r array-set-from-r add-i loop-less loop-again returns)

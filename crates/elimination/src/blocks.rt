@@ -1,0 +1,215 @@
+// The block at the head of the window grows until its polynomial kills the window.
+ghost use mathlib.Core.Path.{_≡_};
+ghost use mathlib.Core.Bool.{true};
+ghost use mathlib.Core.List.{List, []};
+ghost use Prim.Native.Nat.{ℕ, suc, _+_, _-_, _%_, _≤_, _<_};
+ghost use lib.ListN.{getD};
+ghost use Rattle.forms.specs.Numbers.{order-limit};
+ghost use Rattle.algebra.specs.Choice.{below};
+ghost use Rattle.algebra.specs.Modular.{modulo};
+ghost use Rattle.matrices.specs.Matrices.{matrix, FieldRow};
+ghost use Rattle.elimination.specs.Frame.{Window};
+ghost use Rattle.elimination.specs.Shapes.{CompanionRows};
+ghost use Rattle.elimination.specs.Settle.{Headed, Wiped, Cleared, Settled};
+ghost use Rattle.elimination.specs.Probe.{Joined, Tried, Probed, Split};
+ghost use Rattle.elimination.specs.State.{frame, Fields, Given};
+ghost use Rattle.elimination.specs.Searches.{tail-of};
+ghost use Rattle.elimination.specs.Powers.{applied, KilledTest};
+use crate::passes::chain;
+use crate::passes::reach;
+use crate::steps::State;
+use crate::steps::column;
+use crate::steps::first_nonzero;
+use crate::steps::inner;
+use crate::steps::plus_outer;
+use crate::steps::replace;
+use crate::turning::rotate;
+use matrices::inversion::plus_row;
+use matrices::Mat;
+use forms::ORDER;
+use matrices::Row;
+use matrices::product_row;
+use matrices::unit_row;
+
+fn tail_entry(x: u8, j: usize, m: usize, p: u8) -> u8
+    requires { ⌜ (x < p) ⌝ }
+    ensures { λ r. ⌜ r ≡ below m j 0 ((p - x) % p) ⌝ }
+{
+    if j < m {
+        return 0;
+    }
+    (p - x) % p
+}
+
+// Minus the entries m .. k - 1 of x, and zeros.
+fn tail(x: Row, m: usize, k: usize, n: usize, p: u8) -> Row
+    requires { ⌜ (n ≤ order-limit) × (k ≤ n) × FieldRow p n x ⌝ }
+    ensures { λ r. ⌜ r ≡ tail-of p m k x ⌝ }
+{
+    let mut r = [0u8; ORDER];
+    let mut j = 0;
+    while j < k {
+        r[j] = tail_entry(x[j], j, m, p);
+        j = j + 1;
+    }
+    r
+}
+
+// Row a + 1 is wiped from column m on, by multiples of e_a.
+fn wipe(s: State, a: usize, m: usize, k: usize, n: usize, p: u8) -> State
+    requires { ⌜ Given p n k s × Headed (modulo p) k m (frame p n s) × (a + 1 < m) ⌝ }
+    ensures { λ r. ⌜ Fields p n r × Wiped (modulo p) n k m a (frame p n s) (frame p n r) ⌝ }
+{
+    let x = s[0][a + 1];
+    if k <= first_nonzero(x, m, k) {
+        return s;
+    }
+    let v = tail(x, m, k, n, p);
+    let z = [0u8; ORDER];
+    let u = plus_row(z, p - 1, unit_row(a), n, p);
+    let c = plus_outer(s[0], column(s[0], a, n), v, n, p);
+    let b = plus_outer(c, u, product_row(v, c, n, p), n, p);
+    let t = plus_outer(s[1], column(s[1], a, n), v, n, p);
+    let f = plus_outer(s[2], u, product_row(v, s[2], n, p), n, p);
+    [b, t, f]
+}
+
+// Rows 1 .. m - 1 are wiped.
+fn clear(mut s: State, m: usize, k: usize, n: usize, p: u8) -> State
+    requires { ⌜ Given p n k s × Headed (modulo p) k m (frame p n s) ⌝ }
+    ensures { λ r. ⌜ Fields p n r × Cleared (modulo p) n k m 0 (frame p n s) (frame p n r) ⌝ }
+{
+    let mut r = m - 1;
+    while 0 < r {
+        let x = wipe(s, r - 1, m, k, n, p);
+        s = x;
+        r = r - 1;
+    }
+    s
+}
+
+// Nothing is left behind the block, or a longer one is made.
+fn settle(s: State, m: usize, k: usize, n: usize, p: u8) -> State
+    requires { ⌜ Given p n k s × Headed (modulo p) k m (frame p n s) ⌝ }
+    ensures { λ r. ⌜ Fields p n r × ((h : ℕ) × Settled (modulo p) n k m (frame p n s) h (frame p n r)) ⌝ }
+{
+    let c = clear(s, m, k, n, p);
+    let j = first_nonzero(c[0][0], m, k);
+    if k <= j {
+        return c;
+    }
+    chain(rotate(c, j, j + 1, n), k, n, p)
+}
+
+// b g
+fn apply(b: Mat, g: Row, n: usize, p: u8) -> Row
+    requires { ⌜ (n ≤ order-limit) × (0 < p) ⌝ }
+    ensures { λ r. ⌜ r ≡ applied p n b g ⌝ }
+{
+    let mut r = [0u8; ORDER];
+    let mut i = 0;
+    while i < n {
+        r[i] = inner(b[i], g, n, p);
+        i = i + 1;
+    }
+    r
+}
+
+fn same_row(x: Row, y: Row, n: usize) -> bool
+    requires { ⌜ n ≤ order-limit ⌝ }
+    ensures { λ r. ⌜ (r ≡ true → (i : ℕ) → i < n → getD x i 0 ≡ getD y i 0) ⌝ }
+{
+    let mut i = 0;
+    while i < n {
+        if x[i] != y[i] {
+            return false;
+        }
+        i = i + 1;
+    }
+    true
+}
+
+// Whether the polynomial of the block of m kills e_j, tried by powers of b.
+fn killed(b: Mat, j: usize, m: usize, n: usize, p: u8) -> bool
+    requires { ⌜ (n ≤ order-limit) × (0 < p) × (j < n) × (0 < m) × (m ≤ n) ⌝ }
+    ensures { λ r. ⌜ KilledTest p n m j b r ⌝ }
+{
+    let mut g = unit_row(j);
+    let mut v = [0u8; ORDER];
+    let mut e = 0;
+    while e < m {
+        let y = plus_row(v, b[e][m - 1], g, n, p);
+        let x = apply(b, g, n, p);
+        v = y;
+        g = x;
+        e = e + 1;
+    }
+    same_row(g, v, n)
+}
+
+// A pass from e_0 + e_j.
+fn join(s: State, j: usize, k: usize, n: usize, p: u8) -> State
+    requires { ⌜ Given p n k s × (0 < j) × (j < k) × Window (modulo p) k (matrix p n (getD s 0 [])) ⌝ }
+    ensures { λ r. ⌜ Fields p n r × Joined (modulo p) n k j (frame p n s) (frame p n r) ⌝ }
+{
+    let w = plus_row(unit_row(0), 1, unit_row(j), n, p);
+    chain(replace(s, 0, w, n, p), k, n, p)
+}
+
+// Whether the block's polynomial kills e_j is tried as it stands, and else by a pass.
+fn probe_at(s: State, j: usize, m: usize, k: usize, n: usize, p: u8) -> State
+    requires { ⌜ Given p n k s × (0 < m) × (m ≤ j) × (j < k) × Window (modulo p) k (matrix p n (getD s 0 [])) ⌝ }
+    ensures { λ r. ⌜ Fields p n r × Tried (modulo p) n k m j (frame p n s) (frame p n r) ⌝ }
+{
+    if killed(s[0], j, m, n, p) {
+        return s;
+    }
+    join(s, j, k, n, p)
+}
+
+// Nothing is left behind the block: a longer one is made, or the block's polynomial kills the window.
+fn probe(mut s: State, m: usize, k: usize, n: usize, p: u8) -> State
+    requires { ⌜ Given p n k s × Headed (modulo p) k m (frame p n s) × CompanionRows (modulo p) m (matrix p n (getD s 0 [])) ⌝ }
+    ensures { λ r. ⌜ Fields p n r × ((h : ℕ) × Probed (modulo p) n k m (frame p n s) h (frame p n r)) ⌝ }
+{
+    let mut j = m;
+    while j < k {
+        let x = probe_at(s, j, m, k, n, p);
+        s = x;
+        if m < reach(s[0], k, n) {
+            return s;
+        }
+        j = j + 1;
+    }
+    s
+}
+
+// One round: a longer block, or the block's polynomial kills the window.
+fn round(s: State, m: usize, k: usize, n: usize, p: u8) -> State
+    requires { ⌜ Given p n k s × Headed (modulo p) k m (frame p n s) ⌝ }
+    ensures { λ r. ⌜ Fields p n r × ((h : ℕ) × Probed (modulo p) n k m (frame p n s) h (frame p n r)) ⌝ }
+{
+    let c = settle(s, m, k, n, p);
+    if m < reach(c[0], k, n) {
+        return c;
+    }
+    probe(c, m, k, n, p)
+}
+
+// The window becomes a block whose polynomial kills all of it, and the rest.
+pub fn split(s: State, k: usize, n: usize, p: u8) -> State
+    requires { ⌜ Given p n k s × (0 < k) × Window (modulo p) k (matrix p n (getD s 0 [])) ⌝ }
+    ensures { λ r. ⌜ Fields p n r × ((m : ℕ) × Split (modulo p) n k (frame p n s) m (frame p n r)) ⌝ }
+{
+    let mut c = chain(s, k, n, p);
+    let mut m = reach(c[0], k, n);
+    loop {
+        let x = round(c, m, k, n, p);
+        c = x;
+        let h = reach(c[0], k, n);
+        if h <= m {
+            return c;
+        }
+        m = h;
+    }
+}

@@ -1,0 +1,6 @@
+// The analysis: a field matrix in a basis in which it is the block diagonal of companion blocks.
+pub mod steps; // rows and columns, and the changes of basis
+pub mod turning; // the basis in another order
+pub mod passes; // the pass that makes a block
+pub mod blocks; // the block whose polynomial kills the window
+pub mod elimination; // block after block

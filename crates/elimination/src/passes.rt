@@ -1,0 +1,73 @@
+// The pass: column after column takes the place of the next basis vector, as long as it has a pivot in the window [0,k).
+ghost use mathlib.Core.Path.{_≡_};
+ghost use mathlib.Core.Logic.{_≢_};
+ghost use mathlib.Core.List.{[]};
+ghost use Prim.Native.Nat.{ℕ, suc, _+_, _≤_, _<_};
+ghost use lib.ListN.{getD};
+ghost use Rattle.forms.specs.Numbers.{order-limit};
+ghost use Rattle.algebra.specs.Modular.{modulo};
+ghost use Rattle.matrices.specs.Matrices.{matrix};
+ghost use Rattle.elimination.specs.Pass.{Ready, Passed, Pulled, Chained};
+ghost use Rattle.elimination.specs.State.{frame, Fields, Given};
+ghost use Rattle.elimination.specs.Searches.{column-of, FirstNonzero, Reach};
+use crate::steps::State;
+use crate::steps::column;
+use crate::steps::first_nonzero;
+use crate::steps::replace;
+use matrices::inversion::plus_row;
+use matrices::Mat;
+use matrices::unit_row;
+
+// The first pivot of column j, at row q, comes to row j + 1.
+fn pull(s: State, j: usize, q: usize, k: usize, n: usize, p: u8) -> State
+    requires { ⌜ Given p n k s × (q < k) × Ready (modulo p) k j (frame p n s) × FirstNonzero (column-of n (getD s 0 []) j) (j + 1) k q ⌝ }
+    ensures { λ r. ⌜ Fields p n r × Pulled (modulo p) n k j (frame p n s) (frame p n r) ⌝ }
+{
+    if q == j + 1 {
+        return s;
+    }
+    let w = plus_row(unit_row(q), p - 1, unit_row(j + 1), n, p);
+    replace(s, q, w, n, p)
+}
+
+// Column j takes the place of e_(j+1).
+fn push(s: State, j: usize, k: usize, n: usize, p: u8) -> State
+    requires { ⌜ Given p n k s × (j + 1 < k) × Ready (modulo p) k j (frame p n s) × (matrix p n (getD s 0 []) (suc j) j ≢ modulo p .zero) ⌝ }
+    ensures { λ r. ⌜ Fields p n r × Passed (modulo p) n k j (frame p n s) (suc j) (suc j) (frame p n r) ⌝ }
+{
+    let w = column(s[0], j, n);
+    replace(s, j + 1, w, n, p)
+}
+
+// From column 0 on, as far as there are pivots.
+pub fn chain(mut s: State, k: usize, n: usize, p: u8) -> State
+    requires { ⌜ Given p n k s × (0 < k) × Ready (modulo p) k 0 (frame p n s) ⌝ }
+    ensures { λ r. ⌜ Fields p n r × ((m : ℕ) × Chained (modulo p) n k (frame p n s) m (frame p n r)) ⌝ }
+{
+    let mut j = 0;
+    loop {
+        let q = first_nonzero(column(s[0], j, n), j + 1, k);
+        if k <= q {
+            return s;
+        }
+        let x = push(pull(s, j, q, k, n, p), j, k, n, p);
+        s = x;
+        j = j + 1;
+    }
+}
+
+// How long the block at the head of the window is: up to the first column with no pivot.
+pub fn reach(b: Mat, k: usize, n: usize) -> usize
+    requires { ⌜ (0 < k) × (k ≤ n) × (n ≤ order-limit) ⌝ }
+    ensures { λ r. ⌜ Reach k b r ⌝ }
+{
+    let mut j = 0;
+    while j + 1 < k {
+        let q = first_nonzero(column(b, j, n), j + 1, k);
+        if k <= q {
+            return j + 1;
+        }
+        j = j + 1;
+    }
+    k
+}

@@ -1,0 +1,135 @@
+// Rows, columns, and the change of basis that replaces one vector.
+ghost use mathlib.Core.Path.{_≡_};
+ghost use mathlib.Core.Logic.{_≢_};
+ghost use mathlib.Core.List.{List, []};
+ghost use Prim.Native.Nat.{ℕ, _+_, _*_, _%_, _≤_, _<_};
+ghost use lib.ListN.{getD, set};
+ghost use Rattle.forms.specs.Numbers.{total, order-limit};
+ghost use Rattle.algebra.specs.Modular.{modulo};
+ghost use Rattle.matrices.specs.Matrices.{cell, vector, FieldRow, FieldMatrix};
+ghost use Rattle.matrices.specs.Rows.{plus-row};
+ghost use Rattle.elimination.specs.Replace.{Replaced};
+ghost use Rattle.elimination.specs.State.{frame, Fields, Given};
+ghost use Rattle.elimination.specs.Steps.{PlusOuter, ColumnSet, entry-of};
+ghost use Rattle.elimination.specs.Searches.{column-of, FirstNonzero};
+use matrices::inversion::plus_row;
+use matrices::Mat;
+use forms::ORDER;
+use matrices::Row;
+use matrices::unit_row;
+use matrices::wide;
+use residues::residue::reciprocal_of;
+
+// B, T and the inverse of T, with A T = T B.
+pub type State = [Mat; 3];
+
+// x · y
+pub fn inner(x: Row, y: Row, n: usize, p: u8) -> u8
+    requires { ⌜ (n ≤ order-limit) × (0 < p) ⌝ }
+    ensures { λ r. ⌜ r ≡ entry-of p n x y ⌝ }
+{
+    let mut sum: u32 = 0;
+    let mut k = 0;
+    while k < n {
+        let a = wide(x[k]);
+        let b = wide(y[k]);
+        sum = sum + a * b;
+        k = k + 1;
+    }
+    (sum % (p as u32)) as u8
+}
+
+// x + k y; there is nothing to do where k is 0.
+fn plus_multiple_row(x: Row, k: u8, y: Row, n: usize, p: u8) -> Row
+    requires { ⌜ (n ≤ order-limit) × (0 < p) × FieldRow p n x ⌝ }
+    ensures { λ r. ⌜ r ≡ plus-row p n x k y ⌝ }
+{
+    if k == 0 {
+        return x;
+    }
+    plus_row(x, k, y, n, p)
+}
+
+// m + c zᵀ
+pub fn plus_outer(m: Mat, c: Row, z: Row, n: usize, p: u8) -> Mat
+    requires { ⌜ (n ≤ order-limit) × (0 < p) × FieldMatrix p n m ⌝ }
+    ensures { λ r. ⌜ PlusOuter p n m c z r ⌝ }
+{
+    let mut r = [[0u8; ORDER]; ORDER];
+    let mut i = 0;
+    while i < n {
+        r[i] = plus_multiple_row(m[i], c[i], z, n, p);
+        i = i + 1;
+    }
+    r
+}
+
+// x with v at one place.
+fn with_entry(x: Row, at: usize, v: u8) -> Row
+    requires { ⌜ at < order-limit ⌝ }
+    ensures { λ r. ⌜ r ≡ set x at v ⌝ }
+{
+    let mut r = x;
+    r[at] = v;
+    r
+}
+
+// m with m w for one column.
+fn set_column(m: Mat, at: usize, w: Row, n: usize, p: u8) -> Mat
+    requires { ⌜ (n ≤ order-limit) × (at < n) × (0 < p) × FieldMatrix p n m ⌝ }
+    ensures { λ r. ⌜ ColumnSet p n at w m r ⌝ }
+{
+    let mut r = [[0u8; ORDER]; ORDER];
+    let mut i = 0;
+    while i < n {
+        let v = inner(m[i], w, n, p);
+        r[i] = with_entry(m[i], at, v);
+        i = i + 1;
+    }
+    r
+}
+
+// The basis vector e_at is replaced by w.
+pub fn replace(s: State, at: usize, w: Row, n: usize, p: u8) -> State
+    requires { ⌜ Given p n n s × (at < n) × FieldRow p n w × (getD w at 0 ≢ 0) ⌝ }
+    ensures { λ r. ⌜ Fields p n r × Replaced (modulo p) n at (vector p n w) (frame p n s) (frame p n r) ⌝ }
+{
+    let d = reciprocal_of(w[at], p);
+    let z = [0u8; ORDER];
+    let e = unit_row(at);
+    let c = plus_row(plus_row(z, p - d, w, n, p), d, e, n, p);
+    let m = set_column(s[0], at, w, n, p);
+    let b = plus_outer(m, c, m[at], n, p);
+    let t = set_column(s[1], at, w, n, p);
+    let f = plus_outer(s[2], c, s[2][at], n, p);
+    [b, t, f]
+}
+
+// Column j.
+pub fn column(b: Mat, j: usize, n: usize) -> Row
+    requires { ⌜ (n ≤ order-limit) × (j < order-limit) ⌝ }
+    ensures { λ r. ⌜ r ≡ column-of n b j ⌝ }
+{
+    let mut r = [0u8; ORDER];
+    let mut i = 0;
+    while i < n {
+        r[i] = b[i][j];
+        i = i + 1;
+    }
+    r
+}
+
+// The first place from `from` on, below k, where x is not zero; k if there is none.
+pub fn first_nonzero(x: Row, from: usize, k: usize) -> usize
+    requires { ⌜ (from ≤ k) × (k ≤ order-limit) ⌝ }
+    ensures { λ r. ⌜ FirstNonzero x from k r ⌝ }
+{
+    let mut i = from;
+    while i < k {
+        if x[i] != 0 {
+            return i;
+        }
+        i = i + 1;
+    }
+    k
+}
