@@ -13,11 +13,11 @@ use Rattle.forms.specs.Reading.{marked, reading, certificate-of}
 use Rattle.forms.specs.Operations.{is-mark, part-found, Finds}
 use lib.Seq.{ext-getD}
 use Rattle.forms.specs.Tests.{equal-holds, and-parts, and-holds}
-use Rattle.forms.specs.Layouts.{records-read, payload-read, reading-laid-out}
+use Rattle.forms.specs.Layouts.{payload-read, reading-laid-out}
 use Rattle.forms.specs.Findings.{found-by-mark, nothing-found, payload-not-empty}
 use Rattle.forms.specs.declared.Fault.{Fault}
-use Rattle.certificate.specs.Sizes.{mark-by-table, offset-next}
-use Rattle.certificate.specs.ReadRecords.{read-of, good-read}
+use Rattle.certificate.specs.Sizes.{mark-by-table}
+use Rattle.certificate.specs.ReadRecords.{read-of, good-read, payload-within}
 use Rattle.certificate.specs.declared.reading.Cursor.{Cursor}
 use Rattle.certificate.specs.declared.reading.Read.{Read}
 use Rattle.certificate.specs.declared.reading.Read.the-variants.{Good, Bad}
@@ -70,7 +70,7 @@ module _ (s : List ℕ) {r : Read} (next : ℕ) (read : r ≡ read-of (reading s
     fine-reading = good-read (reading s) next read good .0
 
     pub found-complete : (k : ℕ) → k < 10 → offset (at s 5) (k + 1) ≤ length s
-    found-complete k l = rw offset-next (records-read s fine-reading k l .complete)
+    found-complete = payload-within 10 s fine-reading
 
     pub found-marked : {m found : List ℕ} (k : ℕ) → k < 10 → Marks m k → found ≡ part (at s 5) k s → Finds s m found
     found-marked {m} k l h e = record { answered = e ∙ sym (ap (part-found (reading s) s) (is-the-mark m k l (h .one l)) ∙ found-by-mark s k l fine-reading) }

@@ -13,7 +13,7 @@ use Rattle.forms.specs.Answers.{Asked, fine, refuse, _then_, ask, each}
 use Rattle.forms.specs.Certificate.{size, offset}
 use Rattle.forms.specs.Reading.{order-and-prime, marked, record-asked, records-asked}
 use Rattle.forms.specs.Tests.{ask-fine, then-fine, fine-then, each-fine, refuse-each}
-use Rattle.forms.specs.OneRecord.{content-asked}
+use Rattle.forms.specs.OneRecord.{content-asked, record-read}
 use Rattle.forms.specs.declared.Fault.{Fault}
 use Rattle.forms.specs.declared.Fault.the-variants.{Form}
 use Rattle.certificate.specs.Sizes.{offset-next}
@@ -134,6 +134,13 @@ module _ (count : ℕ) (s : List ℕ) where
   pub records-bad : {r : Read} {fault : Fault} (k next : ℕ) → k < count → each k records ≡ fine → r ≡ read-of (records k) next → r ≡ Bad fault → r ≡ read-of (records-asked count s) end
   unfolding records-asked
   records-bad k next l h e f = bad-then (each count records) (ask (leb (length s) end) 10 end) end end (bad-each records k count next end l h e f) f
+
+  -- every one of them is complete
+  pub payload-within : records-asked count s ≡ fine → (k : ℕ) → k < count → offset (at s 5) (k + 1) ≤ length s
+  unfolding records-asked
+  payload-within e k l =
+      let first = then-fine (each count records) (ask (leb (length s) end) 10 end) e .0 in
+      rw (offset-next (at s 5) k) (record-read (at s 4) (at s 5) s k (each-fine count records first k l) .complete)
 
   module _ {k start : ℕ} (all : k ≡ count) (starts : start ≡ offset (at s 5) k) (good : each k records ≡ fine) where
     ends : start ≡ end

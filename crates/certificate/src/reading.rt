@@ -55,8 +55,9 @@ fn read_frame(s: &[u8], c: Cursor, k: usize, size: usize) -> Read
     ensures { λ r. ⌜ r ≡ read-of (frame-asked k (c .at) size (now (s .entry))) (c .at + 4) ⌝ }
 {
     let start = c.at;
+    let short = refused(6, start);
     if s.len() < start + 4 {
-        return refused(6, start);
+        return short;
     }
     if !is_marked(k, s[start], s[start + 1]) {
         return refused(7, start);
@@ -65,7 +66,7 @@ fn read_frame(s: &[u8], c: Cursor, k: usize, size: usize) -> Read
         return refused(8, start + 2);
     }
     if s.len() < start + 4 + size {
-        return refused(6, start);
+        return short;
     }
     Read::Good(Cursor { at: start + 4 })
 }

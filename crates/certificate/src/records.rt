@@ -6,29 +6,7 @@ ghost use Rattle.forms.specs.Reading.{marked};
 
 pub const RECORDS: usize = 10;
 
-// HD MA DF PL PI QR QI FB TB TI
-pub const MARKS: [u8; 20] = [
-    b'H',
-    b'D',
-    b'M',
-    b'A',
-    b'D',
-    b'F',
-    b'P',
-    b'L',
-    b'P',
-    b'I',
-    b'Q',
-    b'R',
-    b'Q',
-    b'I',
-    b'F',
-    b'B',
-    b'T',
-    b'B',
-    b'T',
-    b'I',
-];
+pub const MARKS: [u8; 20] = *b"HDMADFPLPIQRQIFBTBTI";
 
 // The two bytes are the mark of record k.
 pub fn is_marked(k: usize, first: u8, second: u8) -> bool

@@ -1,32 +1,30 @@
 -- The growing block in code: what its steps say of the state.
-use mathlib.Core.Path.{_≡_, refl, sym, _∙_, ap, ap₂, subst}
-use mathlib.Core.Logic.{_≢_, inl, inr}
-use mathlib.Core.Bool.{Bool, true}
+use mathlib.Core.Path.{_≡_, sym, _∙_, ap, subst}
 use mathlib.Core.List.{List, [], _∷_}
-use Prim.Native.Nat.{ℕ, zero, suc, _+_, _*_, _-_, _%_, _≤_, _<_}
+use Prim.Native.Nat.{ℕ, zero, suc, _+_, _-_, _≤_, _<_}
 use native.Mathlib.Numerals.{add-one}
 use native.Mathlib.Decide.{decLt}
 use native.Mathlib.Omega.{arith}
 use lib.ListN.{getD}
-use Rattle.forms.specs.Numbers.{order-limit}
-use Rattle.algebra.specs.Ring.{Ring, one-times}
+use Rattle.algebra.specs.Ring.{one-times}
 use Rattle.algebra.specs.Sum.{delta}
-use Rattle.algebra.specs.Matrix.{Matrix, identity}
+use Rattle.algebra.specs.Matrix.{Matrix}
 use Rattle.algebra.specs.Modular.{residue, modulo, residue-one}
-use Rattle.matrices.specs.Matrices.{cell, vector, matrix, matrix-inside, matrix-within, FieldRow}
+use Rattle.matrices.specs.Matrices.{cell, vector, matrix, matrix-inside, FieldRow}
 use Rattle.forms.specs.Primes.{prime-means}
 use Rattle.matrices.specs.Products.{product-row}
 use Rattle.matrices.specs.Rows.{plus-row, unit-row}
-use Rattle.elimination.specs.Frame.{Frame, Window, Change, change-then}
+use Rattle.elimination.specs.Frame.{Window, Change, change-then}
 use Rattle.elimination.specs.Replace.{Replaced}
 use Rattle.elimination.specs.Shapes.{CompanionRows}
 use Rattle.elimination.specs.Wipe.{wipe-change, wipe-columns, wipe-rows, wipe-zero}
 use Rattle.elimination.specs.Rotation.{rotation, Reordered, rotated-change}
 use Rattle.elimination.specs.Pass.{Ready, Chained}
+use Rattle.elimination.specs.Killing.{corner, Kills}
 use Rattle.elimination.specs.Settle.{Headed, Wiped, wiped-none, Cleared, clear-turn, cleared-headed, Settled, settled-same, settled-longer, chained-headed}
-use Rattle.elimination.specs.Probe.{Joined, joined-ready, Probing, Probed, Tried, tried-headed, tried-longer, tried-turn, probe-end, probed-of-settled, probed-then, Split, split-of-probed}
+use Rattle.elimination.specs.Probe.{Joined, joined-ready, joined-headed, Probing, Probed, probe-skip, probe-longer, probe-turn, probe-end, probed-of-settled, probed-then, Split, split-of-probed}
 use Rattle.elimination.specs.Form.{Stage, stage-turn}
-use Rattle.elimination.specs.State.{Array, State, frame, frame-within, Fields, Given, prime-positive, prime-distinct, zero-entry, entry-nonzero, field-row}
+use Rattle.elimination.specs.State.{Array, State, frame, frame-within, Given, prime-positive, prime-distinct, zero-entry, entry-nonzero, field-row}
 use Rattle.elimination.specs.Steps.{PlusOuter, opposite-unit, spread}
 use Rattle.elimination.specs.Searches.{column-of, column-of-at, FirstNonzero, tail-of, tail-before, tail-low, tail-high, tail-upto, Reach, reach-is}
 use Rattle.elimination.specs.Turns.{turned-state, turned-reordered}
@@ -36,32 +34,34 @@ module _ (p n k m a : ℕ) (s : State) (g : Given p n k s) (h : Headed (modulo p
   -- row a + 1 has nothing from column m on
   pub wiped-already : (q : ℕ) → FirstNonzero (getD (getD s 0 []) (a + 1) []) m k q → k ≤ q → Wiped (modulo p) n k m a (frame p n s) (frame p n s)
   wiped-already q f e = wiped-none (modulo p) n k m a (frame p n s) (λ t b. elim (decLt t k) [
-      yes c ↦ zero-entry p n (getD s 0 []) (suc a) t (omega (arith, g .fits, h .fits)) (omega (arith, g .fits)) (ap (λ (i : ℕ). cell (getD s 0 []) i t) (sym (add-one a)) ∙ f .zeros t b (omega arith))
-    | no c ↦ h .window .right (suc a) t (omega (arith, h .fits)) (omega arith) ])
+    | yes c ↦ zero-entry p n (getD s 0 []) (suc a) t (omega (arith, g .fits, h .fits)) (omega (arith, g .fits)) (ap (λ (i : ℕ). cell (getD s 0 []) i t) (sym (add-one a)) ∙ f .zeros t b (omega arith))
+    | no c ↦ h .window .right (suc a) t (omega (arith, h .fits)) (omega arith)
+  ])
 
   module _ (v u c e y z : List ℕ) (w b t f : Array) (ev : v ≡ tail-of p m k (getD (getD s 0 []) (a + 1) [])) (eu : u ≡ opposite-unit p n a) (ec : c ≡ column-of n (getD s 0 []) a) (ee : e ≡ column-of n (getD s 1 []) a)
       (ey : y ≡ product-row p n v w) (ez : z ≡ product-row p n v (getD s 2 [])) (xw : PlusOuter p n (getD s 0 []) c v w) (xb : PlusOuter p n w u y b) (xt : PlusOuter p n (getD s 1 []) e v t) (xf : PlusOuter p n (getD s 2 []) u z f) where
     pub wiped-now : Wiped (modulo p) n k m a (frame p n s) (frame p n (b ∷ t ∷ f ∷ []))
     wiped-now =
-      let positive : 0 < p = prime-positive p (g .prime-p) in
-      let inside : a + 1 < n = omega (arith, g .fits, h .fits) in
-      let row : FieldRow p n (getD (getD s 0 []) (a + 1) []) = field-row p n (getD s 0 []) (a + 1) inside (g .fields .B) in
-      let low : (q : ℕ) → q < m → vector p n v q ≡ modulo p .zero = λ q d. ap (λ (x : List ℕ). vector p n x q) ev ∙ tail-low p n m k _ positive (g .fits) row q d in
-      let high : (q : ℕ) → m ≤ q → q < k → vector p n v q ≡ modulo p .minus (matrix p n (getD s 0 []) (suc a) q) = λ q d o.
-            ap (λ (x : List ℕ). vector p n x q) ev ∙ tail-high p n m k _ positive (g .fits) row q d o ∙ ap (λ (i : ℕ). modulo p .minus (residue p (cell (getD s 0 []) i q))) (add-one a)
-            ∙ ap (modulo p .minus) (sym (matrix-inside p n (getD s 0 []) (suc a) q (omega arith) (omega (arith, g .fits)))) in
-      let upto : (q : ℕ) → k ≤ q → vector p n v q ≡ modulo p .zero = λ q d. ap (λ (x : List ℕ). vector p n x q) ev ∙ tail-upto p n m k _ positive (g .fits) row q d in
-      let sheared = spread p n a v positive (g .order) (omega arith) (ap (λ (x : List ℕ). getD x a 0) ev ∙ tail-before p n m k _ positive (g .fits) row a (omega arith)) s u c e y z w b t f eu
-            (λ i d. ap (λ (x : List ℕ). getD x i 0) ec ∙ column-of-at n (getD s 0 []) a i d) (λ i d. ap (λ (x : List ℕ). getD x i 0) ee ∙ column-of-at n (getD s 1 []) a i d) ey ez xw xb xt xf in
-      record {
-        change = wipe-change (modulo p) n k m a (vector p n v) _ _ (omega arith) (h .fits) (g .fits) (frame-within p n s) low high upto (h .columns) sheared;
-        columns = wipe-columns (modulo p) n k m a (vector p n v) _ _ (omega arith) (h .fits) (g .fits) (frame-within p n s) low high upto (h .columns) sheared;
-        rows = wipe-rows (modulo p) n k m a (vector p n v) _ _ (omega arith) (h .fits) (g .fits) (frame-within p n s) low high upto (h .columns) sheared;
-        zeros = wipe-zero (modulo p) n k m a (vector p n v) _ _ (omega arith) (h .fits) (g .fits) (frame-within p n s) low high upto (h .columns) sheared (h .window) }
+        let positive : 0 < p = prime-positive p (g .prime-p) in
+        let inside : a + 1 < n = omega (arith, g .fits, h .fits) in
+        let row : FieldRow p n (getD (getD s 0 []) (a + 1) []) = field-row p n (getD s 0 []) (a + 1) inside (g .fields .B) in
+        let low : (q : ℕ) → q < m → vector p n v q ≡ modulo p .zero = λ q d. ap (λ (x : List ℕ). vector p n x q) ev ∙ tail-low p n m k _ positive (g .fits) row q d in
+        let high : (q : ℕ) → m ≤ q → q < k → vector p n v q ≡ modulo p .minus (matrix p n (getD s 0 []) (suc a) q) = λ q d o.
+        ap (λ (x : List ℕ). vector p n x q) ev ∙ tail-high p n m k _ positive (g .fits) row q d o ∙ ap (λ (i : ℕ). modulo p .minus (residue p (cell (getD s 0 []) i q))) (add-one a)
+        ∙ ap (modulo p .minus) (sym (matrix-inside p n (getD s 0 []) (suc a) q (omega arith) (omega (arith, g .fits)))) in
+        let upto : (q : ℕ) → k ≤ q → vector p n v q ≡ modulo p .zero = λ q d. ap (λ (x : List ℕ). vector p n x q) ev ∙ tail-upto p n m k _ positive (g .fits) row q d in
+        let sheared = spread p n a v positive (g .order) (omega arith) (ap (λ (x : List ℕ). getD x a 0) ev ∙ tail-before p n m k _ positive (g .fits) row a (omega arith)) s u c e y z w b t f eu
+        (λ i d. ap (λ (x : List ℕ). getD x i 0) ec ∙ column-of-at n (getD s 0 []) a i d) (λ i d. ap (λ (x : List ℕ). getD x i 0) ee ∙ column-of-at n (getD s 1 []) a i d) ey ez xw xb xt xf in
+        record {
+          change = wipe-change (modulo p) n k m a (vector p n v) _ _ (omega arith) (h .fits) (g .fits) (frame-within p n s) low high upto (h .columns) sheared;
+          columns = wipe-columns (modulo p) n k m a (vector p n v) _ _ (omega arith) (h .fits) (g .fits) (frame-within p n s) low high upto (h .columns) sheared;
+          rows = wipe-rows (modulo p) n k m a (vector p n v) _ _ (omega arith) (h .fits) (g .fits) (frame-within p n s) low high upto (h .columns) sheared;
+          zeros = wipe-zero (modulo p) n k m a (vector p n v) _ _ (omega arith) (h .fits) (g .fits) (frame-within p n s) low high upto (h .columns) sheared (h .window);
+        }
 
 pub clear-next : (p n k m r : ℕ) (s t u : State) → 0 < r → Cleared (modulo p) n k m r (frame p n s) (frame p n t) → Wiped (modulo p) n k m (r - 1) (frame p n t) (frame p n u) → Cleared (modulo p) n k m (r - 1) (frame p n s) (frame p n u)
 clear-next p n k m r s t u l x y = let e : r ≡ suc (r - 1) = omega arith in
-  clear-turn (modulo p) n k m (r - 1) (frame p n s) (frame p n t) (frame p n u) (subst (λ (q : ℕ). Cleared (modulo p) n k m q (frame p n s) (frame p n t)) e x) y
+    clear-turn (modulo p) n k m (r - 1) (frame p n s) (frame p n t) (frame p n u) (subst (λ (q : ℕ). Cleared (modulo p) n k m q (frame p n s) (frame p n t)) e x) y
 
 module _ (p n k m : ℕ) (s c : State) (g : Given p n k c) (h : Headed (modulo p) k m (frame p n s)) (x : Cleared (modulo p) n k m 0 (frame p n s) (frame p n c)) (j : ℕ) (f : FirstNonzero (getD (getD c 0 []) 0 []) m k j) where
   -- row 0 has nothing from column m on
@@ -76,38 +76,36 @@ module _ (p n k m : ℕ) (s c : State) (g : Given p n k c) (h : Headed (modulo p
 
   pub settled-further : j < k → (q : ℕ) (r : State) → Chained (modulo p) n k (frame p n (turned-state n j (j + 1) c)) q (frame p n r) → Settled (modulo p) n k m (frame p n s) q (frame p n r)
   settled-further l q r y = settled-longer (modulo p) (prime-distinct p (g .prime-p)) n k m j q (frame p n s) (frame p n c) (frame p n (turned-state n j (j + 1) c)) (frame p n r) (g .fits) (f .low) l
-    (frame-within p n c) (frame-within p n (turned-state n j (j + 1) c)) h x (entry-nonzero p n (getD c 0 []) 0 j (g .fields .B) (omega (arith, g .fits)) (omega (arith, g .fits)) (f .hit l))
-    (subst (λ (i : ℕ). Reordered (modulo p) n (rotation j i) (frame p n c) (frame p n (turned-state n j (j + 1) c))) (add-one j) (turned-reordered p n j (j + 1) (omega arith) (omega (arith, g .fits)) c)) y
+      (frame-within p n c) (frame-within p n (turned-state n j (j + 1) c)) h x (entry-nonzero p n (getD c 0 []) 0 j (g .fields .B) (omega (arith, g .fits)) (omega (arith, g .fits)) (f .hit l))
+      (subst (λ (i : ℕ). Reordered (modulo p) n (rotation j i) (frame p n c) (frame p n (turned-state n j (j + 1) c))) (add-one j) (turned-reordered p n j (j + 1) (omega arith) (omega (arith, g .fits)) c)) y
 
 -- e_0 + e_j
 pub joined-vector : (p n k j : ℕ) (s : State) (w : List ℕ) → Given p n k s → j < k → w ≡ plus-row p n (unit-row 0) 1 (unit-row j) → (i : ℕ) → vector p n w i ≡ modulo p .plus (delta (modulo p) 0 i) (delta (modulo p) j i)
 joined-vector p n k j s w g l e i = ap (λ (x : List ℕ). vector p n x i) e ∙ units-vector p n 0 1 j (prime-positive p (g .prime-p)) (g .order) (omega (arith, g .fits)) (omega (arith, g .fits)) i
-  ∙ ap (modulo p .plus (delta (modulo p) 0 i)) (ap (λ x. modulo p .times x (delta (modulo p) j i)) (residue-one p) ∙ one-times (modulo p) _)
+    ∙ ap (modulo p .plus (delta (modulo p) 0 i)) (ap (λ x. modulo p .times x (delta (modulo p) j i)) (residue-one p) ∙ one-times (modulo p) _)
 
 pub join-ready : (p n k j : ℕ) (s : State) (w : List ℕ) (t : State) → Given p n k s → j < k → Window (modulo p) k (matrix p n (getD s 0 [])) → w ≡ plus-row p n (unit-row 0) 1 (unit-row j)
-  → Replaced (modulo p) n 0 (vector p n w) (frame p n s) (frame p n t) → Ready (modulo p) k 0 (frame p n t)
+    → Replaced (modulo p) n 0 (vector p n w) (frame p n s) (frame p n t) → Ready (modulo p) k 0 (frame p n t)
 join-ready p n k j s w t g l v e r = joined-ready (modulo p) n k j (vector p n w) (frame p n s) (frame p n t) (g .fits) l (frame-within p n s) v (joined-vector p n k j s w g l e) r
 
 pub joined : (p n k j : ℕ) (s : State) (w : List ℕ) (t r : State) → Given p n k s → j < k → w ≡ plus-row p n (unit-row 0) 1 (unit-row j) → Replaced (modulo p) n 0 (vector p n w) (frame p n s) (frame p n t)
-  → (m : ℕ) × Chained (modulo p) n k (frame p n t) m (frame p n r) → Joined (modulo p) n k j (frame p n s) (frame p n r)
+    → (m : ℕ) × Chained (modulo p) n k (frame p n t) m (frame p n r) → Joined (modulo p) n k j (frame p n s) (frame p n r)
 joined p n k j s w t r g l e x c = record { Z = frame p n t; w = vector p n w; is = joined-vector p n k j s w g l e; replaced = x; h = c .0; chained = c .1 }
 
--- one turn of the probe at j
-module _ (p n k m j : ℕ) (s t u : State) (g : Given p n k u) (mj : m ≤ j) (jk : j < k) (x : Probing (modulo p) n k m j (frame p n s) (frame p n t)) (y : Tried (modulo p) n k m j (frame p n t) (frame p n u)) (r : ℕ) (z : Reach k (getD u 0 []) r) where
-  headed : (h : ℕ) × Headed (modulo p) k h (frame p n u)
-  headed = tried-headed (modulo p) n k m j (frame p n s) (frame p n t) (frame p n u) x y
+-- one turn of the probe at j: e_j is killed as it stands, or joined to e_0
+pub probe-skips : (p n k m j : ℕ) (s t : State) → j < k → k ≤ n → Probing (modulo p) n k m j (frame p n s) (frame p n t) → Kills (modulo p) n (matrix p n (getD t 0 [])) (corner (modulo p) m (matrix p n (getD t 0 []))) (delta (modulo p) j)
+    → Probing (modulo p) n k m (j + 1) (frame p n s) (frame p n t)
+probe-skips p n k m j s t l kn x h = rw (add-one j) (probe-skip (modulo p) n k m j (frame p n s) (frame p n t) (omega arith) x h)
 
-  length-is : headed .0 ≡ r
-  unfolding headed
-  length-is = reach-is p n k (headed .0) r u (prime-means p (g .prime-p)) (g .fits) (g .fields) (headed .1) z
+module _ (p n k m j : ℕ) (s t u : State) (g : Given p n k u) (mj : m ≤ j) (jk : j < k) (x : Probing (modulo p) n k m j (frame p n s) (frame p n t)) (y : Joined (modulo p) n k j (frame p n t) (frame p n u)) (r : ℕ) (z : Reach k (getD u 0 []) r) where
+  length-is : y .h ≡ r
+  length-is = reach-is p n k (y .h) r u (prime-means p (g .prime-p)) (g .fits) (g .fields) (joined-headed (modulo p) n k m j (frame p n s) (frame p n t) (frame p n u) (g .fits) mj jk (frame-within p n t) x y) z
 
   pub probe-grows : m < r → (h : ℕ) × Probed (modulo p) n k m (frame p n s) h (frame p n u)
-  unfolding headed
-  probe-grows l = (headed .0, tried-longer (modulo p) n k m j (frame p n s) (frame p n t) (frame p n u) (g .fits) mj jk (frame-within p n t) x y (omega (arith, length-is)))
+  probe-grows l = (y .h, probe-longer (modulo p) n k m j (frame p n s) (frame p n t) (frame p n u) (g .fits) mj jk (frame-within p n t) x y (omega (arith, length-is)))
 
   pub probe-goes-on : r ≤ m → Probing (modulo p) n k m (j + 1) (frame p n s) (frame p n u)
-  unfolding headed
-  probe-goes-on l = rw (add-one j) (tried-turn (modulo p) n k m j (frame p n s) (frame p n t) (frame p n u) (g .fits) mj jk (frame-within p n t) x y (omega (arith, length-is)))
+  probe-goes-on l = rw (add-one j) (probe-turn (modulo p) n k m j (frame p n s) (frame p n t) (frame p n u) (g .fits) mj jk (frame-within p n t) x y (omega (arith, length-is)))
 
 pub probe-ends : (p n k m j : ℕ) (s t : State) → k ≤ n → k ≤ j → j ≤ k → Probing (modulo p) n k m j (frame p n s) (frame p n t) → (h : ℕ) × Probed (modulo p) n k m (frame p n s) h (frame p n t)
 probe-ends p n k m j s t kn a b x = (m, probe-end (modulo p) n k m (frame p n s) (frame p n t) kn (let e : j ≡ k = omega arith in subst (λ (q : ℕ). Probing (modulo p) n k m q (frame p n s) (frame p n t)) e x))
@@ -148,7 +146,7 @@ module _ (p n k m : ℕ) (s c u : State) (g : Given p n k u) (x : Change (modulo
 
 pub chained-reach : (p n k : ℕ) (s c : State) → Given p n k c → (m : ℕ) × Chained (modulo p) n k (frame p n s) m (frame p n c) → (r : ℕ) → Reach k (getD c 0 []) r → Headed (modulo p) k r (frame p n c)
 chained-reach p n k s c g x r z = let h = chained-headed (modulo p) n k (frame p n s) (x .0) (frame p n c) (x .1) in
-  subst (λ (q : ℕ). Headed (modulo p) k q (frame p n c)) (reach-is p n k (x .0) r c (prime-means p (g .prime-p)) (g .fits) (g .fields) h z) h
+    subst (λ (q : ℕ). Headed (modulo p) k q (frame p n c)) (reach-is p n k (x .0) r c (prime-means p (g .prime-p)) (g .fits) (g .fields) h z) h
 
 pub split-reach : (p n k : ℕ) (s c : State) → Given p n k c → (m : ℕ) × Split (modulo p) n k (frame p n s) m (frame p n c) → (r : ℕ) → Reach k (getD c 0 []) r → Split (modulo p) n k (frame p n s) r (frame p n c)
 split-reach p n k s c g x r z = subst (λ (q : ℕ). Split (modulo p) n k (frame p n s) q (frame p n c)) (reach-is p n k (x .0) r c (prime-means p (g .prime-p)) (g .fits) (g .fields) (x .1 .headed) z) (x .1)

@@ -4,10 +4,10 @@ use mathlib.Core.Logic.{_≢_}
 use Prim.Native.Nat.{ℕ, zero, suc, _≤_, _<_}
 use native.Mathlib.Decide.{decLt, ℕ-discrete}
 use native.Mathlib.Omega.{arith}
-use Rattle.algebra.specs.Ring.{Ring, times-zero, zero-times, zero-plus, one-times, times-one, plus-minus}
+use Rattle.algebra.specs.Ring.{Ring, times-zero, zero-times, zero-plus, one-times, times-one}
 use Rattle.algebra.specs.Solver.{_:+_, _:*_, :-_, :0, :1, solve₃, solve₄}
 use Rattle.algebra.specs.Sum.{delta, delta-same, delta-other}
-use Rattle.algebra.specs.Matrix.{Matrix, Vector, Upto}
+use Rattle.algebra.specs.Matrix.{Vector, Upto}
 use Rattle.elimination.specs.Entries.{apply-single}
 use Rattle.elimination.specs.Frame.{Frame, FrameWithin}
 use Rattle.elimination.specs.Shear.{taken}
@@ -16,27 +16,28 @@ use Rattle.elimination.specs.Shapes.{UnitColumns, CompanionRows, Ahead, 
 
 module _ {R : Type 0} (K : Ring R) where
   open Ring K using (plus as _⊕_, times as _⊗_, minus as ⊖_, zero as 𝟘, one as 𝟙)
+
   infixl 60 _⊕_
   infixl 70 _⊗_
   infix 80 ⊖_
-
   -- e_(j+1) is replaced by w, column j
   module _ (n j : ℕ) (w : Vector K) (X Y : Frame K) (l : suc j < n) (o : Upto K n w) (x : FrameWithin K n X)
       (is : (i : ℕ) → w i ≡ X .B i j) (m : Replaced K n (suc j) w X Y) where
     becomes-unit : (w e d a : R) → a ⊗ d ≡ 𝟙 → w ⊕ ⊖ ((w ⊕ ⊖ e) ⊗ d) ⊗ a ≡ e
     becomes-unit w e d a h =
         solve₄ K (λ w e d a. w :+ :- ((w :+ :- e) :* d) :* a) (λ w e d a. w :+ :- ((a :* d) :* (w :+ :- e))) refl w e d a
-      ∙ ap (λ x. w ⊕ ⊖ (x ⊗ (w ⊕ ⊖ e))) h ∙ solve₃ K (λ w e x. w :+ :- (:1 :* (w :+ :- e))) (λ w e x. e) refl w e 𝟘
+        ∙ ap (λ x. w ⊕ ⊖ (x ⊗ (w ⊕ ⊖ e))) h ∙ solve₃ K (λ w e x. w :+ :- (:1 :* (w :+ :- e))) (λ w e x. e) refl w e 𝟘
 
     column-j : (i : ℕ) → Y .B i j ≡ delta K (suc j) i
     unfolding added
     column-j i = replaced-other K n (suc j) w X Y l o x m i j (λ q. omega arith) ∙ ap₂ (λ y z. y ⊕ taken K (added K (suc j) w) (m .by) i ⊗ z) (sym (is i)) (sym (is (suc j)))
-      ∙ becomes-unit (w i) (delta K (suc j) i) (m .by) (w (suc j)) (pivot-unit K n (suc j) w X Y l o x m)
+        ∙ becomes-unit (w i) (delta K (suc j) i) (m .by) (w (suc j)) (pivot-unit K n (suc j) w X Y l o x m)
 
     pub push-columns : UnitColumns K j (X .B) → UnitColumns K (suc j) (Y .B)
     push-columns c i t g = elim (ℕ-discrete j t) [
-        yes e ↦ subst (λ (y : ℕ). Y .B i y ≡ delta K (suc y) i) e (column-j i)
-      | no e ↦ replaced-column K n (suc j) w X Y l o x m i t (c (suc j) t (omega arith) ∙ delta-other K (suc t) (suc j) (omega arith)) (λ q. omega arith) ∙ c i t (omega arith) ]
+      | yes e ↦ subst (λ (y : ℕ). Y .B i y ≡ delta K (suc y) i) e (column-j i)
+      | no e ↦ replaced-column K n (suc j) w X Y l o x m i t (c (suc j) t (omega arith) ∙ delta-other K (suc t) (suc j) (omega arith)) (λ q. omega arith) ∙ c i t (omega arith)
+    ]
 
     module _ (h : ℕ) (e : Ahead K h j (X .B)) where
       -- column j has nothing in rows j+2 .. h
@@ -49,10 +50,12 @@ module _ {R : Type 0} (K : Ring R) where
 
       term : (t q : ℕ) → suc j ≤ t → t < h → suc j ≢ q → X .B (suc t) q ⊗ w q ≡ 𝟘
       term t q a b g = elim (decLt q t) [
-          yes y ↦ ap (λ z. z ⊗ w q) (e .before-it t q (omega arith) b y) ∙ zero-times K _
+        | yes y ↦ ap (λ z. z ⊗ w q) (e .before-it t q (omega arith) b y) ∙ zero-times K _
         | no y ↦ elim (decLt h q) [
-            yes v ↦ ap (λ z. z ⊗ w q) (e .after t q (omega arith) b v) ∙ zero-times K _
-          | no v ↦ ap (λ z. X .B (suc t) q ⊗ z) (nothing q (omega arith) (omega arith)) ∙ times-zero K _ ] ]
+          | yes v ↦ ap (λ z. z ⊗ w q) (e .after t q (omega arith) b v) ∙ zero-times K _
+          | no v ↦ ap (λ z. X .B (suc t) q ⊗ z) (nothing q (omega arith) (omega arith)) ∙ times-zero K _
+        ]
+      ]
 
       in-column : (t : ℕ) → suc j ≤ t → t < h → Y .B (suc t) (suc j) ≡ X .B (suc t) (suc j) ⊗ w (suc j)
       in-column t a b = replaced-row-same K n (suc j) w X Y l o x m (suc t) (same t a b) ∙ apply-single K n (suc j) (X .B) w (suc t) l (λ q g v. term t q a b v)
@@ -75,7 +78,8 @@ module _ {R : Type 0} (K : Ring R) where
       push-ahead = record {
         pivot = λ t a b. pivot-at t a b (ℕ-discrete (suc j) t);
         before-it = λ t c a b g. before-at t c (omega arith) b g (ℕ-discrete (suc j) c);
-        after = λ t c a b g. elsewhere t c (omega arith) b (λ q. omega arith) ∙ e .after t c (omega arith) b g }
+        after = λ t c a b g. elsewhere t c (omega arith) b (λ q. omega arith) ∙ e .after t c (omega arith) b g;
+      }
 
     module _ (h : ℕ) (e : CompanionRows K h (X .B)) (g : suc j < h) where
       unit-inside : (i : ℕ) → i < h → w i ≡ delta K (suc j) i
@@ -83,17 +87,20 @@ module _ {R : Type 0} (K : Ring R) where
 
       next-column : (i : ℕ) → i < h → Y .B i (suc j) ≡ X .B i (suc j)
       next-column i a = replaced-row-same K n (suc j) w X Y l o x m i (unit-inside i a)
-        ∙ apply-single K n (suc j) (X .B) w i l (λ q y v. elim (decLt q h) [
-            yes u ↦ ap (λ z. X .B i q ⊗ z) (unit-inside q u ∙ delta-other K (suc j) q v) ∙ times-zero K _
-          | no u ↦ ap (λ z. z ⊗ w q) (e .right i q a (omega arith)) ∙ zero-times K _ ])
-        ∙ ap (λ z. X .B i (suc j) ⊗ z) (unit-inside (suc j) g ∙ delta-same K (suc j)) ∙ times-one K _
+          ∙ apply-single K n (suc j) (X .B) w i l (λ q y v. elim (decLt q h) [
+            | yes u ↦ ap (λ z. X .B i q ⊗ z) (unit-inside q u ∙ delta-other K (suc j) q v) ∙ times-zero K _
+            | no u ↦ ap (λ z. z ⊗ w q) (e .right i q a (omega arith)) ∙ zero-times K _
+          ])
+          ∙ ap (λ z. X .B i (suc j) ⊗ z) (unit-inside (suc j) g ∙ delta-same K (suc j)) ∙ times-one K _
 
       pub push-kept : Kept K h X Y
       push-kept = record {
         rows = λ i t a. elim (ℕ-discrete (suc j) t) [
-            yes q ↦ subst (λ (y : ℕ). Y .B i y ≡ X .B i y) q (next-column i a)
-          | no q ↦ replaced-row K n (suc j) w X Y l o x m i t (unit-inside i a) q ];
-        columns = λ r t a. replaced-T K n (suc j) w X Y l o x m r t (λ q. omega arith) }
+          | yes q ↦ subst (λ (y : ℕ). Y .B i y ≡ X .B i y) q (next-column i a)
+          | no q ↦ replaced-row K n (suc j) w X Y l o x m i t (unit-inside i a) q
+        ];
+        columns = λ r t a. replaced-T K n (suc j) w X Y l o x m r t (λ q. omega arith);
+      }
 
   -- e_q, q beyond j + 1, is replaced by e_q - e_(j+1)
   module _ (n j q : ℕ) (w : Vector K) (X Y : Frame K) (a : suc j < q) (l : q < n) (o : Upto K n w) (x : FrameWithin K n X)
@@ -103,13 +110,13 @@ module _ {R : Type 0} (K : Ring R) where
 
     by-one : m .by ≡ 𝟙
     by-one = sym (solve₃ K (λ d x y. (:1 :+ :- :0) :* d) (λ d x y. d) refl (m .by) 𝟘 𝟘)
-      ∙ ap (λ y. y ⊗ m .by) (sym (is q ∙ ap₂ (λ y z. y ⊕ ⊖ z) (delta-same K q) (delta-other K (suc j) q (omega arith)))) ∙ pivot-unit K n q w X Y l o x m
+        ∙ ap (λ y. y ⊗ m .by) (sym (is q ∙ ap₂ (λ y z. y ⊕ ⊖ z) (delta-same K q) (delta-other K (suc j) q (omega arith)))) ∙ pivot-unit K n q w X Y l o x m
 
     taken-one : taken K (added K q w) (m .by) (suc j) ≡ 𝟙
     unfolding added
     taken-one = ap₂ (λ y z. ⊖ ((z ⊕ ⊖ (delta K q (suc j))) ⊗ y)) by-one (is (suc j))
-      ∙ ap (λ y. ⊖ ((delta K q (suc j) ⊕ ⊖ y ⊕ ⊖ (delta K q (suc j))) ⊗ 𝟙)) (delta-same K (suc j))
-      ∙ solve₃ K (λ e x y. :- ((e :+ :- :1 :+ :- e) :* :1)) (λ e x y. :1) refl (delta K q (suc j)) 𝟘 𝟘
+        ∙ ap (λ y. ⊖ ((delta K q (suc j) ⊕ ⊖ y ⊕ ⊖ (delta K q (suc j))) ⊗ 𝟙)) (delta-same K (suc j))
+        ∙ solve₃ K (λ e x y. :- ((e :+ :- :1 :+ :- e) :* :1)) (λ e x y. :1) refl (delta K q (suc j)) 𝟘 𝟘
 
     -- the pivot is now at row j + 1
     pub pull-pivot : X .B (suc j) j ≡ 𝟘 → Y .B (suc j) j ≡ X .B q j

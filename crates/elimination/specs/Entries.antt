@@ -1,19 +1,19 @@
 -- Entries of sums and products in which all terms but one, or all of them, vanish.
-use mathlib.Core.Path.{_≡_, refl, sym, _∙_, ap, ap₂, fun-ext, subst}
+use mathlib.Core.Path.{_≡_, sym, _∙_, ap, fun-ext, subst}
 use mathlib.Core.Logic.{_≢_}
 use Prim.Native.Nat.{ℕ, _<_}
 use native.Mathlib.Decide.{ℕ-discrete}
 use Rattle.algebra.specs.Ring.{Ring, plus-zero, one-times, times-commutative, times-zero, zero-times}
 use Rattle.algebra.specs.Sum.{sum, sum-equal, sum-of-zeros, delta, delta-same, delta-other, sum-of-delta}
-use Rattle.algebra.specs.Matrix.{Matrix, Vector, Within, matrix-plus, product, product-within, apply, combine, inner}
+use Rattle.algebra.specs.Matrix.{Matrix, Vector, Within, matrix-plus, product, apply, combine, inner}
 use Rattle.algebra.specs.Elementary.{outer, elementary, product-elementary, elementary-product}
 
 module _ {R : Type 0} (K : Ring R) where
   open Ring K using (plus as _⊕_, times as _⊗_, minus as ⊖_, zero as 𝟘, one as 𝟙)
+
   infixl 60 _⊕_
   infixl 70 _⊗_
   infix 80 ⊖_
-
   pub plus-zero-times : (a x y : R) → x ≡ 𝟘 → a ⊕ x ⊗ y ≡ a
   plus-zero-times a x y h = ap (λ z. a ⊕ z ⊗ y) h ∙ ap (λ z. a ⊕ z) (zero-times K y) ∙ plus-zero K a
 
@@ -22,8 +22,9 @@ module _ {R : Type 0} (K : Ring R) where
 
   pub sum-single : (f : ℕ → R) (n s : ℕ) → s < n → ((q : ℕ) → q < n → s ≢ q → f q ≡ 𝟘) → sum K f n ≡ f s
   sum-single f n s l h = sum-equal K f (λ q. delta K s q ⊗ f q) n (λ q g. elim (ℕ-discrete s q) [
-      yes e ↦ sym (ap (λ x. x ⊗ f q) (subst (λ (y : ℕ). delta K s y ≡ 𝟙) e (delta-same K s)) ∙ one-times K _)
-    | no e ↦ h q g e ∙ sym (ap (λ x. x ⊗ f q) (delta-other K s q e) ∙ zero-times K _) ]) ∙ sum-of-delta K s f n l
+    | yes e ↦ sym (ap (λ x. x ⊗ f q) (subst (λ (y : ℕ). delta K s y ≡ 𝟙) e (delta-same K s)) ∙ one-times K _)
+    | no e ↦ h q g e ∙ sym (ap (λ x. x ⊗ f q) (delta-other K s q e) ∙ zero-times K _)
+  ]) ∙ sum-of-delta K s f n l
 
   pub apply-single : (n s : ℕ) (A : Matrix K) (w : Vector K) (i : ℕ) → s < n → ((q : ℕ) → q < n → s ≢ q → A i q ⊗ w q ≡ 𝟘) → apply K n A w i ≡ A i s ⊗ w s
   unfolding apply

@@ -1,7 +1,6 @@
 -- The form that the elimination builds from the back: companion blocks along the diagonal, each polynomial dividing the next; in front of them
 -- a window that the polynomial of the first block kills. One more block is found in the window and brought to its end.
 use mathlib.Core.Path.{_≡_, refl, sym, _∙_, ap, ap₂, fun-ext, subst}
-use mathlib.Core.Logic.{_≢_}
 use mathlib.Core.List.{List, [], _∷_}
 use Prim.Native.Nat.{ℕ, zero, suc, _+_, _-_, _≤_, _<_}
 use native.Mathlib.Decide.{decLt, ℕ-discrete}
@@ -12,17 +11,17 @@ use Rattle.algebra.specs.Matrix.{Matrix, Vector, Within, identity}
 use Rattle.algebra.specs.Inverse.{basis-start}
 use Rattle.algebra.specs.Divides.{Divides}
 use Rattle.algebra.specs.Polynomial.{Polynomial, polynomials, Monic}
-use Rattle.elimination.specs.Frame.{Frame, FrameWithin, In, column, Window, Change}
+use Rattle.elimination.specs.Frame.{Frame, FrameWithin, In, column, Window}
 use Rattle.elimination.specs.Killing.{monic-of-low, monic-of-monic, corner, Kills, kills-span, kills-out-of-frame, corner-divides}
 use Rattle.elimination.specs.Rotation.{rotation, rotation-low, rotation-middle, rotation-high, rotation-below, Reordered, rotated-change}
 use Rattle.elimination.specs.Probe.{Split}
 
 module _ {R : Type 0} (K : Ring R) where
   open Ring K using (plus as _⊕_, times as _⊗_, minus as ⊖_, zero as 𝟘, one as 𝟙)
+
   infixl 60 _⊕_
   infixl 70 _⊗_
   infix 80 ⊖_
-
   -- a polynomial and its degree
   pub record Block : Type 0 where
     pub degree : ℕ
@@ -55,13 +54,17 @@ module _ {R : Type 0} (K : Ring R) where
 
   form-equal : (n : ℕ) (B C : Matrix K) (k o : ℕ) (bs : List Block) → k ≤ o → ((i t : ℕ) → k ≤ t → C i t ≡ B i t) → Form n B o bs → Form n C o bs
   form-equal n B C k o [] l e x = x
-  form-equal n B C k o (b ∷ bs) l e x = (record {
-      some = x .0 .some; monic = x .0 .monic;
+  form-equal n B C k o (b ∷ bs) l e x = (
+    record {
+      some = x .0 .some;
+      monic = x .0 .monic;
       unit = λ i t a g. e i t (omega arith) ∙ x .0 .unit i t a g;
       last = λ i g. e _ _ (omega arith) ∙ x .0 .last i g;
       above = λ i t a g h. e i t (omega arith) ∙ x .0 .above i t a g h;
-      under = λ i t a g h. e i t (omega arith) ∙ x .0 .under i t a g h },
-    (x .1 .0, form-equal n B C k (o + b .degree) bs (omega arith) e (x .1 .1)))
+      under = λ i t a g h. e i t (omega arith) ∙ x .0 .under i t a g h;
+    },
+    (x .1 .0, form-equal n B C k (o + b .degree) bs (omega arith) e (x .1 .1)),
+  )
 
   -- the elimination of A down to the window [0,k)
   pub record Stage (n k : ℕ) (A : Matrix K) (X : Frame K) : Type 0 where
@@ -75,7 +78,10 @@ module _ {R : Type 0} (K : Ring R) where
   stage-start n A X a b t i = record {
     basis = rw (b, t, i) (basis-start K n A a);
     window = rw b (record { right = λ i j x y. a .columns i j y; down = λ i j x y. a .rows i j x });
-    blocks = []; form = refl; top = tt }
+    blocks = [];
+    form = refl;
+    top = tt;
+  }
 
   -- a block of m is found in the window, which makes Y, and brought to its end, which makes Z
   module _ (n k m : ℕ) (A : Matrix K) (X Y Z : Frame K) (kn : k ≤ n) (y : FrameWithin K n Y) (z : FrameWithin K n Z) (x : Stage n k A X) (s : Split K n k X m Y)
@@ -114,23 +120,27 @@ module _ {R : Type 0} (K : Ring R) where
 
     corner-unit : (i t : ℕ) → k - m ≤ t → suc t < k → delta K (suc (t - (k - m))) (σ i) ≡ delta K (suc t) i
     corner-unit i t a b = elim (ℕ-discrete (suc t) i) [
-        yes q ↦ subst (λ (y : ℕ). delta K (suc (t - (k - m))) (σ y) ≡ delta K (suc t) y) q (ap (delta K (suc (t - (k - m)))) (in-block (suc t) (omega arith) b ∙ omega arith) ∙ delta-same K _ ∙ sym (delta-same K _))
+      | yes q ↦ subst (λ (y : ℕ). delta K (suc (t - (k - m))) (σ y) ≡ delta K (suc t) y) q (ap (delta K (suc (t - (k - m)))) (in-block (suc t) (omega arith) b ∙ omega arith) ∙ delta-same K _ ∙ sym (delta-same K _))
       | no q ↦ delta-other K _ _ (λ e. q (elim (decLt i (k - m)) [
-            yes v ↦ omega (arith, in-window i v, e)
-          | no v ↦ elim (decLt i k) [ yes u ↦ omega (arith, in-block i (omega arith) u, e) | no u ↦ omega (arith, behind i (omega arith), e) ] ])) ∙ sym (delta-other K (suc t) i q) ]
+        | yes v ↦ omega (arith, in-window i v, e)
+        | no v ↦ elim (decLt i k) [ yes u ↦ omega (arith, in-block i (omega arith) u, e) | no u ↦ omega (arith, behind i (omega arith), e) ]
+      ])) ∙ sym (delta-other K (suc t) i q)
+    ]
 
     unit-at : (i t : ℕ) → k - m ≤ t → suc t < k → Z .B i t ≡ delta K (suc t) i
     unit-at i t a b = elim (decLt i n) [
-        yes l ↦ at i t l (omega arith) ∙ ap (Y .B (σ i)) (in-block t a (omega arith)) ∙ s .headed .columns .unit (σ i) (t - (k - m)) (omega (arith, fits)) ∙ corner-unit i t a b
-      | no l ↦ outside i t (omega arith) ∙ sym (delta-other K (suc t) i (omega arith)) ]
+      | yes l ↦ at i t l (omega arith) ∙ ap (Y .B (σ i)) (in-block t a (omega arith)) ∙ s .headed .columns .unit (σ i) (t - (k - m)) (omega (arith, fits)) ∙ corner-unit i t a b
+      | no l ↦ outside i t (omega arith) ∙ sym (delta-other K (suc t) i (omega arith))
+    ]
 
     above-at : (i t : ℕ) → k - m ≤ t → t < k → i < k - m → Z .B i t ≡ 𝟘
     above-at i t a b c = at i t (omega arith) (omega arith) ∙ ap₂ (Y .B) (in-window i c) (in-block t a b) ∙ s .headed .columns .low (i + m) (t - (k - m)) (omega arith) (omega (arith, fits))
 
     under-at : (i t : ℕ) → k - m ≤ t → t < k → k ≤ i → Z .B i t ≡ 𝟘
     under-at i t a b c = elim (decLt i n) [
-        yes l ↦ at i t l (omega arith) ∙ ap₂ (Y .B) (behind i c) (in-block t a b) ∙ s .headed .columns .low i (t - (k - m)) (omega (arith, fits)) (omega (arith, fits))
-      | no l ↦ outside i t (omega arith) ]
+      | yes l ↦ at i t l (omega arith) ∙ ap₂ (Y .B) (behind i c) (in-block t a b) ∙ s .headed .columns .low i (t - (k - m)) (omega (arith, fits)) (omega (arith, fits))
+      | no l ↦ outside i t (omega arith)
+    ]
 
     block : Block
     block = record { degree = m; polynomial = corner K m (Y .B) }
@@ -138,39 +148,50 @@ module _ {R : Type 0} (K : Ring R) where
     companion : CompanionAt (Z .B) (k - m) block
     unfolding block
     companion = let e : k - m + m ≡ k = omega (arith, fits) in record {
-      some = some; monic = monic-of-monic K m _;
+      some = some;
+      monic = monic-of-monic K m _;
       unit = λ i t a b. unit-at i t a (omega arith);
       last = λ i l. at (k - m + i) (k - m + (m - 1)) (omega (arith, some)) (omega (arith, some))
-        ∙ ap₂ (Y .B) (in-block (k - m + i) (omega arith) (omega arith) ∙ omega arith) (in-block (k - m + (m - 1)) (omega arith) (omega (arith, some)) ∙ omega arith)
-        ∙ sym (ap ⊖_ (monic-of-low K m _ i l) ∙ minus-minus K _);
+          ∙ ap₂ (Y .B) (in-block (k - m + i) (omega arith) (omega arith) ∙ omega arith) (in-block (k - m + (m - 1)) (omega arith) (omega (arith, some)) ∙ omega arith)
+          ∙ sym (ap ⊖_ (monic-of-low K m _ i l) ∙ minus-minus K _);
       above = λ i t a b c. above-at i t a (omega arith) c;
-      under = λ i t a b c. under-at i t a (omega arith) (omega arith) }
+      under = λ i t a b c. under-at i t a (omega arith) (omega arith);
+    }
 
     next-window : Window K (k - m) (Z .B)
     next-window = record {
       right = λ i t a b. elim (decLt t k) [
-          yes g ↦ above-at i t b g a
+        | yes g ↦ above-at i t b g a
         | no g ↦ elim (decLt t n) [
-            yes l ↦ at i t (omega arith) l ∙ ap₂ (Y .B) (in-window i a) (behind t (omega arith)) ∙ window .right (i + m) t (omega (arith, fits)) (omega arith)
-          | no l ↦ z .B .columns i t (omega arith) ] ];
+          | yes l ↦ at i t (omega arith) l ∙ ap₂ (Y .B) (in-window i a) (behind t (omega arith)) ∙ window .right (i + m) t (omega (arith, fits)) (omega arith)
+          | no l ↦ z .B .columns i t (omega arith)
+        ]
+      ];
       down = λ i t a b. elim (decLt i k) [
-          yes g ↦ at i t (omega arith) (omega arith) ∙ ap₂ (Y .B) (in-block i a g) (in-window t b) ∙ s .flat .right (i - (k - m)) (t + m) (omega (arith, some, fits)) (omega arith)
+        | yes g ↦ at i t (omega arith) (omega arith) ∙ ap₂ (Y .B) (in-block i a g) (in-window t b) ∙ s .flat .right (i - (k - m)) (t + m) (omega (arith, some, fits)) (omega arith)
         | no g ↦ elim (decLt i n) [
-            yes l ↦ at i t l (omega arith) ∙ ap₂ (Y .B) (behind i (omega arith)) (in-window t b) ∙ window .down i (t + m) (omega arith) (omega (arith, fits))
-          | no l ↦ outside i t (omega arith) ] ] }
+          | yes l ↦ at i t l (omega arith) ∙ ap₂ (Y .B) (behind i (omega arith)) (in-window t b) ∙ window .down i (t + m) (omega arith) (omega (arith, fits))
+          | no l ↦ outside i t (omega arith)
+        ]
+      ];
+    }
 
     -- the columns behind the window are as they were
     rest : (i t : ℕ) → k ≤ t → Z .B i t ≡ X .B i t
     unfolding σ
     rest i t g = elim (decLt i k) [
-        yes a ↦ elim (decLt t n) [
-            yes l ↦ at i t (omega arith) l ∙ ap (Y .B (σ i)) (behind t g) ∙ window .right (σ i) t (stays i a) g ∙ sym (x .window .right i t a g)
-          | no l ↦ z .B .columns i t (omega arith) ∙ sym (x .window .right i t a g) ]
+      | yes a ↦ elim (decLt t n) [
+        | yes l ↦ at i t (omega arith) l ∙ ap (Y .B (σ i)) (behind t g) ∙ window .right (σ i) t (stays i a) g ∙ sym (x .window .right i t a g)
+        | no l ↦ z .B .columns i t (omega arith) ∙ sym (x .window .right i t a g)
+      ]
       | no a ↦ elim (decLt i n) [
-            yes l ↦ elim (decLt t n) [
-                yes h ↦ at i t l h ∙ ap₂ (Y .B) (behind i (omega arith)) (behind t g) ∙ s .change .rest i t (omega arith) g
-              | no h ↦ z .B .columns i t (omega arith) ∙ sym (x .basis .within .columns i t (omega arith)) ]
-          | no l ↦ outside i t (omega arith) ∙ sym (x .basis .within .rows i t (omega arith)) ] ]
+        | yes l ↦ elim (decLt t n) [
+          | yes h ↦ at i t l h ∙ ap₂ (Y .B) (behind i (omega arith)) (behind t g) ∙ s .change .rest i t (omega arith) g
+          | no h ↦ z .B .columns i t (omega arith) ∙ sym (x .basis .within .columns i t (omega arith))
+        ]
+        | no l ↦ outside i t (omega arith) ∙ sym (x .basis .within .rows i t (omega arith))
+      ]
+    ]
       where
         stays : (i : ℕ) → i < k → σ i < k
         stays i a = rotation-below m k i fits a
@@ -182,7 +203,7 @@ module _ {R : Type 0} (K : Ring R) where
     unfolding block
     dividing [] h = tt
     dividing (b ∷ bs) h = corner-divides K n m (Y .B) some (omega (arith, fits)) (y .B) (s .headed .columns) (b .polynomial)
-      (kills-out-of-frame K n A Y (b .polynomial) 0 (omega (arith, some, fits)) basis-Y
+        (kills-out-of-frame K n A Y (b .polynomial) 0 (omega (arith, some, fits)) basis-Y
         (kills-span K n k A (b .polynomial) (X .T) (s .change .by) (Y .T) (s .change .span) h 0 (omega (arith, some, fits))))
 
     T-column : (q : ℕ) → q < n → column K (Y .T) (σ q) ≡ column K (Z .T) q
@@ -196,4 +217,5 @@ module _ {R : Type 0} (K : Ring R) where
       window = next-window;
       blocks = block ∷ x .blocks;
       form = (companion, (dividing (x .blocks) (x .top), subst (λ (o : ℕ). Form n (Z .B) o (x .blocks)) (omega (arith, fits)) (form-equal n (X .B) (Z .B) k k (x .blocks) (omega arith) rest (x .form))));
-      top = λ q l. subst (λ (v : Vector K). Kills K n A (corner K m (Y .B)) v) (T-column q (omega arith)) (s .kills A (x .basis) (rotation m k q) (rotation-below m k q fits (omega arith))) }
+      top = λ q l. subst (λ (v : Vector K). Kills K n A (corner K m (Y .B)) v) (T-column q (omega arith)) (s .kills A (x .basis) (rotation m k q) (rotation-below m k q fits (omega arith)));
+    }

@@ -12,10 +12,10 @@ use Rattle.algebra.specs.Inverse.{Inverse, Basis, basis-step}
 
 module _ {R : Type 0} (K : Ring R) where
   open Ring K using (plus as _⊕_, times as _⊗_, minus as ⊖_, zero as 𝟘, one as 𝟙)
+
   infixl 60 _⊕_
   infixl 70 _⊗_
   infix 80 ⊖_
-
   pub record Frame : Type 0 where
     pub B : Matrix K
     pub T : Matrix K
@@ -53,8 +53,12 @@ module _ {R : Type 0} (K : Ring R) where
 
   pub change-none : (n k : ℕ) (X : Frame) → Change n k X X
   change-none n k X = record {
-    basis = λ A h. h; window = λ h. h; rest = λ i j a b. refl; by = delta K;
-    span = λ i j l. sym (product-at K k (X .T) (delta K) i j ∙ sum-equal K _ (λ q. delta K j q ⊗ X .T i q) k (λ q g. times-commutative K _ _ ∙ ap (λ x. x ⊗ X .T i q) (delta-symmetric K q j)) ∙ sum-of-delta K j (X .T i) k l) }
+    basis = λ A h. h;
+    window = λ h. h;
+    rest = λ i j a b. refl;
+    by = delta K;
+    span = λ i j l. sym (product-at K k (X .T) (delta K) i j ∙ sum-equal K _ (λ q. delta K j q ⊗ X .T i q) k (λ q g. times-commutative K _ _ ∙ ap (λ x. x ⊗ X .T i q) (delta-symmetric K q j)) ∙ sum-of-delta K j (X .T i) k l);
+  }
 
   pub change-then : (n k : ℕ) {X Y Z : Frame} → Change n k X Y → Change n k Y Z → Change n k X Z
   change-then n k {X} {Y} {Z} f g = record {
@@ -63,7 +67,8 @@ module _ {R : Type 0} (K : Ring R) where
     rest = λ i j a b. g .rest i j a b ∙ f .rest i j a b;
     by = product K k (f .by) (g .by);
     span = λ i j l. g .span i j l ∙ product-at K k (Y .T) (g .by) i j ∙ sum-equal K _ _ k (λ q h. ap (λ x. x ⊗ g .by q j) (f .span i q h))
-      ∙ sym (product-at K k (product K k (X .T) (f .by)) (g .by) i j) ∙ ap (λ (M : Matrix K). M i j) (product-associative K k (X .T) (f .by) (g .by)) }
+        ∙ sym (product-at K k (product K k (X .T) (f .by)) (g .by) i j) ∙ ap (λ (M : Matrix K). M i j) (product-associative K k (X .T) (f .by) (g .by));
+  }
 
   identity-off : (n i j : ℕ) → i ≢ j → identity K n i j ≡ 𝟘
   identity-off n i j h = elim (decLt i n) [ yes l ↦ identity-inside K n i j l ∙ delta-other K i j h | no l ↦ identity-within K n .rows i j (omega arith) ]
@@ -74,11 +79,11 @@ module _ {R : Type 0} (K : Ring R) where
     -- in the columns of the product from k on nothing happens, and in its rows from k on
     columns-kept : (A : Matrix K) → Within K n A → (i t : ℕ) → k ≤ t → product K n A M i t ≡ A i t
     columns-kept A a i t g = product-at K n A M i t ∙ sum-equal K _ _ n (λ q h. ap (λ y. A i q ⊗ y) (m .columns q t g))
-      ∙ sym (product-at K n A (identity K n) i t) ∙ ap (λ (C : Matrix K). C i t) (product-identity K n A a)
+        ∙ sym (product-at K n A (identity K n) i t) ∙ ap (λ (C : Matrix K). C i t) (product-identity K n A a)
 
     rows-kept : (A : Matrix K) → Within K n A → (i t : ℕ) → k ≤ i → product K n J A i t ≡ A i t
     rows-kept A a i t g = product-at K n J A i t ∙ sum-equal K _ _ n (λ q h. ap (λ y. y ⊗ A q t) (j .rows i q g))
-      ∙ sym (product-at K n (identity K n) A i t) ∙ ap (λ (C : Matrix K). C i t) (identity-product K n A a)
+        ∙ sym (product-at K n (identity K n) A i t) ∙ ap (λ (C : Matrix K). C i t) (identity-product K n A a)
 
     BM : Matrix K
     BM = product K n (X .B) M
@@ -94,20 +99,22 @@ module _ {R : Type 0} (K : Ring R) where
     right-at : Window k (X .B) → (i t : ℕ) → i < k → k ≤ t → Y .B i t ≡ 𝟘
     unfolding BM
     right-at w i t a b = B-at i t ∙ product-at K n J BM i t ∙ sum-of-zeros K _ n (λ q h. elim (decLt q k) [
-        yes g ↦ ap (λ y. J i q ⊗ y) (columns-kept (X .B) (x .B) q t b ∙ w .right q t g b) ∙ times-zero K _
-      | no g ↦ ap (λ y. y ⊗ BM q t) (j .columns i q (omega arith) ∙ identity-off n i q (λ e. omega arith)) ∙ zero-times K _ ])
+      | yes g ↦ ap (λ y. J i q ⊗ y) (columns-kept (X .B) (x .B) q t b ∙ w .right q t g b) ∙ times-zero K _
+      | no g ↦ ap (λ y. y ⊗ BM q t) (j .columns i q (omega arith) ∙ identity-off n i q (λ e. omega arith)) ∙ zero-times K _
+    ])
 
     down-at : Window k (X .B) → (i t : ℕ) → k ≤ i → t < k → Y .B i t ≡ 𝟘
     unfolding BM
     down-at w i t a b = B-at i t ∙ rows-kept BM BM-within i t a ∙ product-at K n (X .B) M i t ∙ sum-of-zeros K _ n (λ q h. elim (decLt q k) [
-        yes g ↦ ap (λ y. y ⊗ M q t) (w .down i q a g) ∙ zero-times K _
-      | no g ↦ ap (λ y. X .B i q ⊗ y) (m .rows q t (omega arith) ∙ identity-off n q t (λ e. omega arith)) ∙ times-zero K _ ])
+      | yes g ↦ ap (λ y. y ⊗ M q t) (w .down i q a g) ∙ zero-times K _
+      | no g ↦ ap (λ y. X .B i q ⊗ y) (m .rows q t (omega arith) ∙ identity-off n q t (λ e. omega arith)) ∙ times-zero K _
+    ])
 
     span-at : (i t : ℕ) → t < k → Y .T i t ≡ product K k (X .T) M i t
     span-at i t g = ap (λ (C : Matrix K). C i t) T-is ∙ product-at K n (X .T) M i t ∙ ap (sum K (λ q. X .T i q ⊗ M q t)) (omega arith)
-      ∙ sum-split K (λ q. X .T i q ⊗ M q t) k (n - k)
-      ∙ ap (λ y. sum K (λ q. X .T i q ⊗ M q t) k ⊕ y) (sum-of-zeros K _ (n - k) (λ q h. ap (λ y. X .T i (k + q) ⊗ y) (m .rows (k + q) t (omega arith) ∙ identity-off n (k + q) t (λ e. omega arith)) ∙ times-zero K _))
-      ∙ plus-zero K _ ∙ sym (product-at K k (X .T) M i t)
+        ∙ sum-split K (λ q. X .T i q ⊗ M q t) k (n - k)
+        ∙ ap (λ y. sum K (λ q. X .T i q ⊗ M q t) k ⊕ y) (sum-of-zeros K _ (n - k) (λ q h. ap (λ y. X .T i (k + q) ⊗ y) (m .rows (k + q) t (omega arith) ∙ identity-off n (k + q) t (λ e. omega arith)) ∙ times-zero K _))
+        ∙ plus-zero K _ ∙ sym (product-at K k (X .T) M i t)
 
     pub change-by : Change n k X Y
     unfolding BM
@@ -116,4 +123,5 @@ module _ {R : Type 0} (K : Ring R) where
       window = λ w. record { right = right-at w; down = down-at w };
       rest = λ i t a b. B-at i t ∙ rows-kept BM BM-within i t a ∙ columns-kept (X .B) (x .B) i t b;
       by = M;
-      span = span-at }
+      span = span-at;
+    }

@@ -11,6 +11,7 @@ pub mod Pass
 pub mod Settle
 pub mod Probe
 pub mod Form
+pub mod Remainders
 pub mod State
 pub mod Steps
 pub mod Searches

@@ -1,13 +1,13 @@
 -- The pass: from column 0 on, column j takes the place of e_(j+1) as long as it has a pivot in the window [0,k). What it does to a frame,
 -- and how far it gets at least.
-use mathlib.Core.Path.{_≡_, refl, sym, _∙_, ap, ap₂}
+use mathlib.Core.Path.{_≡_, refl, sym, _∙_, ap₂}
 use mathlib.Core.Logic.{_≢_}
 use Prim.Native.Nat.{ℕ, suc, _≤_, _<_}
 use native.Mathlib.Decide.{decLt}
 use native.Mathlib.Omega.{arith}
 use Rattle.algebra.specs.Ring.{Ring, plus-minus}
 use Rattle.algebra.specs.Sum.{delta, delta-same, delta-other}
-use Rattle.algebra.specs.Matrix.{Matrix, Vector, Upto}
+use Rattle.algebra.specs.Matrix.{Vector, Upto}
 use Rattle.elimination.specs.Frame.{Frame, FrameWithin, Window, Change, change-none, change-then}
 use Rattle.elimination.specs.Replace.{Replaced, replaced-change, replaced-T}
 use Rattle.elimination.specs.Shapes.{UnitColumns, CompanionRows, Ahead, ahead-none, Kept, kept-none, kept-then, kept-rows}
@@ -15,10 +15,10 @@ use Rattle.elimination.specs.Chain.{push-columns, push-ahead, push-kept,
 
 module _ {R : Type 0} (K : Ring R) where
   open Ring K using (plus as _⊕_, times as _⊗_, minus as ⊖_, zero as 𝟘, one as 𝟙)
+
   infixl 60 _⊕_
   infixl 70 _⊗_
   infix 80 ⊖_
-
   -- where the step at j begins
   pub record Ready (k j : ℕ) (X : Frame K) : Type 0 where
     pub window : Window K k (X .B)
@@ -41,20 +41,22 @@ module _ {R : Type 0} (K : Ring R) where
     ready = y .ready;
     ahead = λ h a. y .ahead h (x .ahead h a);
     kept = λ h c g. (let u = x .kept h c (omega arith) in kept-then K h u (y .kept h (kept-rows K h X Y u c) g));
-    first = λ r c a. y .first r c (omega arith) ∙ x .first r c a }
+    first = λ r c a. y .first r c (omega arith) ∙ x .first r c a;
+  }
 
   -- column j takes the place of e_(j+1)
   pub push-passes : (n k j : ℕ) (w : Vector K) (X Y : Frame K) → suc j < k → k ≤ n → FrameWithin K n X → Ready k j X → ((i : ℕ) → w i ≡ X .B i j) → Replaced K n (suc j) w X Y → Passed n k j X (suc j) (suc j) Y
   push-passes n k j w X Y l h x r is m =
-    let upto : Upto K k w = λ i g. is i ∙ r .window .down i j g (omega arith) in
-    let all : Upto K n w = λ i g. upto i (omega arith) in
-    let change = replaced-change K n k (suc j) w X Y l h upto x m in
-    record {
-      change = change;
-      ready = record { window = change .window (r .window); columns = push-columns K n j w X Y (omega arith) all x is m (r .columns) };
-      ahead = λ q e. push-ahead K n j w X Y (omega arith) all x is m q e;
-      kept = λ q e g. push-kept K n j w X Y (omega arith) all x is m q e g;
-      first = λ r c a. replaced-T K n (suc j) w X Y (omega arith) all x m r c (omega arith) }
+      let upto : Upto K k w = λ i g. is i ∙ r .window .down i j g (omega arith) in
+      let all : Upto K n w = λ i g. upto i (omega arith) in
+      let change = replaced-change K n k (suc j) w X Y l h upto x m in
+      record {
+        change = change;
+        ready = record { window = change .window (r .window); columns = push-columns K n j w X Y (omega arith) all x is m (r .columns) };
+        ahead = λ q e. push-ahead K n j w X Y (omega arith) all x is m q e;
+        kept = λ q e g. push-kept K n j w X Y (omega arith) all x is m q e g;
+        first = λ r c a. replaced-T K n (suc j) w X Y (omega arith) all x m r c (omega arith);
+      }
 
   -- the first pivot of column j, at row q, is brought to row j + 1
   pub record Pulled (n k j : ℕ) (X Y : Frame K) : Type 0 where
@@ -73,26 +75,34 @@ module _ {R : Type 0} (K : Ring R) where
 
   module _ (distinct : 𝟙 ≢ 𝟘) where
     pub pull-pulls : (n k j q : ℕ) (w : Vector K) (X Y : Frame K) → q < k → k ≤ n → suc j < q → FrameWithin K n X → Ready k j X → X .B (suc j) j ≡ 𝟘 → X .B q j ≢ 𝟘
-      → ((i : ℕ) → w i ≡ delta K q i ⊕ ⊖ (delta K (suc j) i)) → Replaced K n q w X Y → Pulled n k j X Y
+        → ((i : ℕ) → w i ≡ delta K q i ⊕ ⊖ (delta K (suc j) i)) → Replaced K n q w X Y → Pulled n k j X Y
     pull-pulls n k j q w X Y l h a x r zero hit is m =
-      let upto : Upto K k w = λ i g. is i ∙ ap₂ (λ y z. y ⊕ ⊖ z) (delta-other K q i (omega arith)) (delta-other K (suc j) i (omega arith)) ∙ plus-minus K 𝟘 in
-      let all : Upto K n w = λ i g. upto i (omega arith) in
-      let change = replaced-change K n k q w X Y l h upto x m in
-      record {
-        passed = record {
-          change = change;
-          ready = record { window = change .window (r .window); columns = pull-columns K n j q w X Y a (omega arith) all x is m (r .columns) };
-          ahead = λ y e. elim (decLt j y) [ yes g ↦ absurd (e .pivot j (omega arith) g zero) | no g ↦ ahead-none K y j _ (omega arith) ];
-          kept = λ y e g. absurd (distinct (sym (e .unit (suc j) j g g ∙ delta-same K (suc j)) ∙ zero));
-          first = λ r c g. replaced-T K n q w X Y (omega arith) all x m r c (omega arith) };
-        pivot = λ e. hit (sym (pull-pivot K n j q w X Y a (omega arith) all x is m zero) ∙ e) }
+        let upto : Upto K k w = λ i g. is i ∙ ap₂ (λ y z. y ⊕ ⊖ z) (delta-other K q i (omega arith)) (delta-other K (suc j) i (omega arith)) ∙ plus-minus K 𝟘 in
+        let all : Upto K n w = λ i g. upto i (omega arith) in
+        let change = replaced-change K n k q w X Y l h upto x m in
+        record {
+          passed = record {
+            change = change;
+            ready = record { window = change .window (r .window); columns = pull-columns K n j q w X Y a (omega arith) all x is m (r .columns) };
+            ahead = λ y e. elim (decLt j y) [ yes g ↦ absurd (e .pivot j (omega arith) g zero) | no g ↦ ahead-none K y j _ (omega arith) ];
+            kept = λ y e g. absurd (distinct (sym (e .unit (suc j) j g g ∙ delta-same K (suc j)) ∙ zero));
+            first = λ r c g. replaced-T K n q w X Y (omega arith) all x m r c (omega arith);
+          };
+          pivot = λ e. hit (sym (pull-pivot K n j q w X Y a (omega arith) all x is m zero) ∙ e);
+        }
 
     pub pass-ends : (n k j : ℕ) (X Y : Frame K) → j < k → Passed n k 0 X j j Y → ((i : ℕ) → j < i → i < k → Y .B i j ≡ 𝟘) → Chained n k X (suc j) Y
     pass-ends n k j X Y g x zeros =
-      let stop : (i : ℕ) → j < i → Y .B i j ≡ 𝟘 = λ i q. elim (decLt i k) [ yes y ↦ zeros i q y | no y ↦ x .ready .window .down i j (omega arith) g ] in
-      record {
-        j = j; is = refl; high = g; passed = x; stop = stop;
-        longer = λ h e. elim (decLt j h) [ yes v ↦ absurd (x .ahead h e .pivot j (omega arith) v (stop (suc j) (omega arith))) | no v ↦ omega arith ];
-        as-long = λ h e. elim (decLt (suc j) h) [
-            yes v ↦ absurd (distinct (sym (x .kept h e (omega arith) .rows (suc j) j v ∙ e .unit (suc j) j v v ∙ delta-same K (suc j)) ∙ stop (suc j) (omega arith)))
-          | no v ↦ omega arith ] }
+        let stop : (i : ℕ) → j < i → Y .B i j ≡ 𝟘 = λ i q. elim (decLt i k) [ yes y ↦ zeros i q y | no y ↦ x .ready .window .down i j (omega arith) g ] in
+        record {
+          j = j;
+          is = refl;
+          high = g;
+          passed = x;
+          stop = stop;
+          longer = λ h e. elim (decLt j h) [ yes v ↦ absurd (x .ahead h e .pivot j (omega arith) v (stop (suc j) (omega arith))) | no v ↦ omega arith ];
+          as-long = λ h e. elim (decLt (suc j) h) [
+            | yes v ↦ absurd (distinct (sym (x .kept h e (omega arith) .rows (suc j) j v ∙ e .unit (suc j) j v v ∙ delta-same K (suc j)) ∙ stop (suc j) (omega arith)))
+            | no v ↦ omega arith
+          ];
+        }

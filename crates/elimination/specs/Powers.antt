@@ -1,13 +1,12 @@
 -- The test by powers whether the polynomial of a block kills e_j: B^m e_j against the combination of the powers before it.
-use mathlib.Core.Path.{_≡_, refl, sym, _∙_, ap, ap₂, fun-ext}
+use mathlib.Core.Path.{_≡_, sym, _∙_, ap, ap₂}
 use mathlib.Core.Bool.{Bool, true}
 use mathlib.Core.List.{List, []}
-use Prim.Native.Nat.{ℕ, zero, suc, _+_, _*_, _-_, _%_, _≤_, _<_}
+use Prim.Native.Nat.{ℕ, _+_, _-_, _≤_, _<_}
 use native.Mathlib.Numerals.{add-one}
 use native.Mathlib.Omega.{arith}
 use lib.ListN.{getD}
-use Rattle.forms.specs.Numbers.{order-limit, total}
-use Rattle.algebra.specs.Ring.{Ring}
+use Rattle.forms.specs.Numbers.{order-limit}
 use Rattle.algebra.specs.Sum.{sum, sum-nil, sum-suc, sum-equal, delta, delta-other}
 use Rattle.algebra.specs.Matrix.{Matrix, Vector, Upto, vector-equal, apply, apply-at, apply-product, apply-upto, identity-apply}
 use Rattle.algebra.specs.Modular.{residue, modulo, residue-times, residue-remainder}
@@ -27,7 +26,7 @@ applied p n b g = filled n (λ i. entry-of p n (getD b i []) g) zero-row
 applied-vector : (p n : ℕ) (b : Array) (g : List ℕ) → 0 < p → vector p n (applied p n b g) ≡ apply (modulo p) n (matrix p n b) (vector p n g)
 applied-vector p n b g h = vector-equal (modulo p) n _ _ (vector-upto p n _) (apply-upto (modulo p) n _ _ (matrix-within p n b)) (λ i l.
     vector-inside p n (applied p n b g) i l ∙ ap (residue p) (filled-inside n (λ i. entry-of p n (getD b i []) g) zero-row 0 i l) ∙ residue-remainder p _ h ∙ total-residue p n _
-  ∙ sum-equal (modulo p) _ _ n (λ k q. residue-times p _ _ ∙ ap₂ (modulo p .times) (sym (matrix-inside p n b i k l q)) (sym (vector-inside p n g k q))) ∙ sym (apply-at (modulo p) n _ _ i))
+    ∙ sum-equal (modulo p) _ _ n (λ k q. residue-times p _ _ ∙ ap₂ (modulo p .times) (sym (matrix-inside p n b i k l q)) (sym (vector-inside p n g k q))) ∙ sym (apply-at (modulo p) n _ _ i))
 
 -- g is B^e e_j, and v the combination of the powers before it
 pub record Powered (p n m j : ℕ) (b : Array) (e : ℕ) (g v : List ℕ) : Type 0 where
@@ -45,15 +44,17 @@ module _ (p n m j : ℕ) (b : Array) (h : 0 < p) (o : n ≤ order-limit) (l : j 
   pub powered-start : Powered p n m j b 0 (unit-row j) zero-row
   powered-start = record {
     power-is = unit-vector p n j o l ∙ sym (ap (λ (M : Matrix (modulo p)). apply (modulo p) n M (delta (modulo p) j)) (power-zero (modulo p) n (matrix p n b)) ∙ identity-apply (modulo p) n _ unit-upto);
-    sum-is = λ i. zero-vector p n i ∙ sym (sum-nil (modulo p) _) }
+    sum-is = λ i. zero-vector p n i ∙ sym (sum-nil (modulo p) _);
+  }
 
   pub powered-turn : (e : ℕ) (g v : List ℕ) → e < n → m - 1 < n → Powered p n m j b e g v → Powered p n m j b (e + 1) (applied p n b g) (plus-row p n v (cell b e (m - 1)) g)
   powered-turn e g v en mn x = rw (add-one e) (record {
     power-is = applied-vector p n b g h ∙ ap (apply (modulo p) n (matrix p n b)) (x .power-is)
-      ∙ sym (ap (λ (M : Matrix (modulo p)). apply (modulo p) n M (delta (modulo p) j)) (power-suc (modulo p) n (matrix p n b) e) ∙ apply-product (modulo p) n _ _ _);
+        ∙ sym (ap (λ (M : Matrix (modulo p)). apply (modulo p) n M (delta (modulo p) j)) (power-suc (modulo p) n (matrix p n b) e) ∙ apply-product (modulo p) n _ _ _);
     sum-is = λ i. plus-row-vector p n v (cell b e (m - 1)) g h i
-      ∙ ap₂ (modulo p .plus) (x .sum-is i) (ap₂ (modulo p .times) (sym (matrix-inside p n b e (m - 1) en mn)) (ap (λ (w : Vector (modulo p)). w i) (x .power-is))) ∙ sym (sum-suc (modulo p) _ e) })
+        ∙ ap₂ (modulo p .plus) (x .sum-is i) (ap₂ (modulo p .times) (sym (matrix-inside p n b e (m - 1) en mn)) (ap (λ (w : Vector (modulo p)). w i) (x .power-is))) ∙ sym (sum-suc (modulo p) _ e);
+  })
 
   pub powered-kills : (g v : List ℕ) → Powered p n m j b m g v → ((i : ℕ) → i < n → getD g i 0 ≡ getD v i 0) → Kills (modulo p) n (matrix p n b) (corner (modulo p) m (matrix p n b)) (delta (modulo p) j)
   powered-kills g v x e = kills-by-powers (modulo p) n m (matrix p n b) (λ i. matrix p n b i (m - 1)) (delta (modulo p) j) (matrix-within p n b) unit-upto (λ i.
-    ap (λ (w : Vector (modulo p)). w i) (sym (x .power-is) ∙ vector-equal (modulo p) n _ _ (vector-upto p n g) (vector-upto p n v) (λ i l. vector-inside p n g i l ∙ ap (residue p) (e i l) ∙ sym (vector-inside p n v i l))) ∙ x .sum-is i)
+      ap (λ (w : Vector (modulo p)). w i) (sym (x .power-is) ∙ vector-equal (modulo p) n _ _ (vector-upto p n g) (vector-upto p n v) (λ i l. vector-inside p n g i l ∙ ap (residue p) (e i l) ∙ sym (vector-inside p n v i l))) ∙ x .sum-is i)

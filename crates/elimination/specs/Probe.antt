@@ -1,28 +1,27 @@
 -- Nothing is left behind the block, [C 0; 0 B']. A pass from e_0 + e_j makes a longer block, or the block's polynomial kills e_j.
 use mathlib.Core.Path.{_≡_, refl, sym, _∙_, ap, ap₂, subst}
-use mathlib.Core.Logic.{_≢_, _⊎_, inl, inr}
+use mathlib.Core.Logic.{_≢_}
 use Prim.Native.Nat.{ℕ, suc, _-_, _≤_, _<_}
 use native.Mathlib.Decide.{decLt, ℕ-discrete}
 use native.Mathlib.Omega.{arith}
 use Rattle.algebra.specs.Ring.{Ring, plus-zero, times-one, times-zero, zero-times}
 use Rattle.algebra.specs.Solver.{_:+_, _:*_, :-_, :1, solve₃}
-use Rattle.algebra.specs.Sum.{sum, sum-equal, sum-of-plus, sum-of-delta, delta, delta-same, delta-other}
-use Rattle.algebra.specs.Matrix.{Matrix, Vector, Upto, apply, apply-at}
-use Rattle.algebra.specs.Polynomial.{Polynomial}
+use Rattle.algebra.specs.Sum.{sum-equal, sum-of-plus, sum-of-delta, delta, delta-same, delta-other}
+use Rattle.algebra.specs.Matrix.{Matrix, Vector, Upto, apply-at}
 use Rattle.elimination.specs.Entries.{apply-single}
 use Rattle.elimination.specs.Frame.{Frame, FrameWithin, In, column, Window, Change, change-none, change-then}
 use Rattle.elimination.specs.Replace.{Replaced, replaced-change, replaced-row, replaced-row-same, replaced-T, replaced-T-same}
 use Rattle.elimination.specs.Shapes.{CompanionRows, rows-equal, Kept}
 use Rattle.elimination.specs.Killing.{monic-of-equal, corner, Kills, kills-in-frame, kills-difference, corner-kills}
 use Rattle.elimination.specs.Pass.{Ready, Chained}
-use Rattle.elimination.specs.Settle.{Headed, headed-ready, chained-headed, Settled}
+use Rattle.elimination.specs.Settle.{Headed, chained-headed, Settled}
 
 module _ {R : Type 0} (K : Ring R) where
   open Ring K using (plus as _⊕_, times as _⊗_, minus as ⊖_, zero as 𝟘, one as 𝟙)
+
   infixl 60 _⊕_
   infixl 70 _⊗_
   infix 80 ⊖_
-
   -- e_0 is replaced by e_0 + e_j, where the first m rows are those of [C 0]: they stay
   module _ (n m j : ℕ) (w : Vector K) (X Y : Frame K) (some : 0 < m) (mj : m ≤ j) (jn : j < n) (o : Upto K n w) (x : FrameWithin K n X)
       (is : (i : ℕ) → w i ≡ delta K 0 i ⊕ delta K j i) (r : Replaced K n 0 w X Y) (e : CompanionRows K m (X .B)) where
@@ -34,20 +33,22 @@ module _ {R : Type 0} (K : Ring R) where
 
     first-column : (i : ℕ) → i < m → Y .B i 0 ≡ X .B i 0
     first-column i g = replaced-row-same K n 0 w X Y (omega arith) o x r i (unit-inside i g)
-      ∙ apply-single K n 0 (X .B) w i (omega arith) (λ q y v. elim (ℕ-discrete j q) [
-          yes u ↦ ap (λ z. z ⊗ w q) (subst (λ (z : ℕ). X .B i z ≡ 𝟘) u (e .right i j g mj)) ∙ zero-times K _
-        | no u ↦ ap (λ z. X .B i q ⊗ z) (elsewhere q v u) ∙ times-zero K _ ])
-      ∙ ap (λ z. X .B i 0 ⊗ z) (unit-inside 0 some ∙ delta-same K 0) ∙ times-one K _
+        ∙ apply-single K n 0 (X .B) w i (omega arith) (λ q y v. elim (ℕ-discrete j q) [
+          | yes u ↦ ap (λ z. z ⊗ w q) (subst (λ (z : ℕ). X .B i z ≡ 𝟘) u (e .right i j g mj)) ∙ zero-times K _
+          | no u ↦ ap (λ z. X .B i q ⊗ z) (elsewhere q v u) ∙ times-zero K _
+        ])
+        ∙ ap (λ z. X .B i 0 ⊗ z) (unit-inside 0 some ∙ delta-same K 0) ∙ times-one K _
 
     pub joined-rows : (i t : ℕ) → i < m → Y .B i t ≡ X .B i t
     joined-rows i t g = elim (ℕ-discrete 0 t) [
-        yes u ↦ subst (λ (z : ℕ). Y .B i z ≡ X .B i z) u (first-column i g)
-      | no u ↦ replaced-row K n 0 w X Y (omega arith) o x r i t (unit-inside i g) u ]
+      | yes u ↦ subst (λ (z : ℕ). Y .B i z ≡ X .B i z) u (first-column i g)
+      | no u ↦ replaced-row K n 0 w X Y (omega arith) o x r i t (unit-inside i g) u
+    ]
 
     pub joined-T : (i : ℕ) → Y .T i 0 ≡ X .T i 0 ⊕ X .T i j
     joined-T i = replaced-T-same K n 0 w X Y (omega arith) o x r i ∙ apply-at K n (X .T) w i
-      ∙ sum-equal K _ (λ q. delta K 0 q ⊗ X .T i q ⊕ delta K j q ⊗ X .T i q) n (λ q g. ap (λ z. X .T i q ⊗ z) (is q) ∙ solve₃ K (λ t a b. t :* (a :+ b)) (λ t a b. a :* t :+ b :* t) refl (X .T i q) (delta K 0 q) (delta K j q))
-      ∙ sum-of-plus K _ _ n ∙ ap₂ _⊕_ (sum-of-delta K 0 (X .T i) n (omega arith)) (sum-of-delta K j (X .T i) n jn)
+        ∙ sum-equal K _ (λ q. delta K 0 q ⊗ X .T i q ⊕ delta K j q ⊗ X .T i q) n (λ q g. ap (λ z. X .T i q ⊗ z) (is q) ∙ solve₃ K (λ t a b. t :* (a :+ b)) (λ t a b. a :* t :+ b :* t) refl (X .T i q) (delta K 0 q) (delta K j q))
+        ∙ sum-of-plus K _ _ n ∙ ap₂ _⊕_ (sum-of-delta K 0 (X .T i) n (omega arith)) (sum-of-delta K j (X .T i) n jn)
 
   -- the block's polynomial kills the basis vectors m .. j - 1 and the block is as it was in length
   pub record Probing (n k m j : ℕ) (X Y : Frame K) : Type 0 where
@@ -70,20 +71,28 @@ module _ {R : Type 0} (K : Ring R) where
   -- the block's polynomial kills the block's vectors
   own : (n k m : ℕ) (X : Frame K) → k ≤ n → Headed K k m X → (A : Matrix K) → In K n A X → (q : ℕ) → q < m → Kills K n A (corner K m (X .B)) (column K (X .T) q)
   own n k m X kn x A s q l = let fits : m ≤ n = omega (arith, x .fits) in
-    kills-in-frame K n A X (corner K m (X .B)) q (omega arith) s (corner-kills K n m (X .B) (x .some) fits (s .within) (x .columns) q l)
+      kills-in-frame K n A X (corner K m (X .B)) q (omega arith) s (corner-kills K n m (X .B) (x .some) fits (s .within) (x .columns) q l)
 
   pub probe-end : (n k m : ℕ) (X Y : Frame K) → k ≤ n → Probing n k m k X Y → Probed n k m X m Y
   probe-end n k m X Y kn x = record {
-    change = x .change; headed = x .headed; grown = omega arith; flat = λ e. x .flat;
-    kills = λ e A s q l. elim (decLt q m) [ yes a ↦ own n k m Y kn (x .headed) A (x .change .basis A s) q a | no a ↦ x .kills A s q (omega arith) l ] }
+    change = x .change;
+    headed = x .headed;
+    grown = omega arith;
+    flat = λ e. x .flat;
+    kills = λ e A s q l. elim (decLt q m) [ yes a ↦ own n k m Y kn (x .headed) A (x .change .basis A s) q a | no a ↦ x .kills A s q (omega arith) l ];
+  }
 
   -- e_j is killed as it stands
   pub probe-skip : (n k m j : ℕ) (X Y : Frame K) → j < n → Probing n k m j X Y → Kills K n (Y .B) (corner K m (Y .B)) (delta K j) → Probing n k m (suc j) X Y
   probe-skip n k m j X Y jn x h = record {
-    change = x .change; headed = x .headed; flat = x .flat;
+    change = x .change;
+    headed = x .headed;
+    flat = x .flat;
     kills = λ A s q a l. elim (ℕ-discrete j q) [
-        yes e ↦ subst (λ (z : ℕ). Kills K n A (corner K m (Y .B)) (column K (Y .T) z)) e (kills-in-frame K n A Y (corner K m (Y .B)) j jn (x .change .basis A s) h)
-      | no e ↦ x .kills A s q a (omega arith) ] }
+      | yes e ↦ subst (λ (z : ℕ). Kills K n A (corner K m (Y .B)) (column K (Y .T) z)) e (kills-in-frame K n A Y (corner K m (Y .B)) j jn (x .change .basis A s) h)
+      | no e ↦ x .kills A s q a (omega arith)
+    ];
+  }
 
   -- e_0 + e_j takes the place of e_0 in Y, which makes Z, and a pass from there makes W
   pub record Joined (n k j : ℕ) (Y W : Frame K) : Type 0 where
@@ -150,44 +159,35 @@ module _ {R : Type 0} (K : Ring R) where
       -- e_j is the difference of the new first vector and the old
       killed : (A : Matrix K) → In K n A X → Kills K n A (corner K m (Y .B)) (column K (Y .T) j)
       killed A s = kills-difference K n A (corner K m (Y .B)) (column K (W .T) 0) (column K (Y .T) 0) (column K (Y .T) j)
-        (subst (λ f. Kills K n A f (column K (W .T) 0)) same (own n k m W kn headed A (change .basis A s) 0 (x .headed .some)))
-        (own n k m Y kn (x .headed) A (x .change .basis A s) 0 (x .headed .some))
-        (λ i. sym (ap (λ z. z ⊕ ⊖ 𝟙 ⊗ Y .T i 0) (start i) ∙ solve₃ K (λ a b c. a :+ b :+ :- :1 :* a) (λ a b c. b) refl (Y .T i 0) (Y .T i j) 𝟘))
+          (subst (λ f. Kills K n A f (column K (W .T) 0)) same (own n k m W kn headed A (change .basis A s) 0 (x .headed .some)))
+          (own n k m Y kn (x .headed) A (x .change .basis A s) 0 (x .headed .some))
+          (λ i. sym (ap (λ z. z ⊕ ⊖ 𝟙 ⊗ Y .T i 0) (start i) ∙ solve₃ K (λ a b c. a :+ b :+ :- :1 :* a) (λ a b c. b) refl (Y .T i 0) (Y .T i j) 𝟘))
 
       at : (A : Matrix K) → In K n A X → (q : ℕ) → m ≤ q → q < suc j → Kills K n A (corner K m (Y .B)) (column K (Y .T) q)
       at A s q a g = elim (ℕ-discrete j q) [
-          yes d ↦ subst (λ (z : ℕ). Kills K n A (corner K m (Y .B)) (column K (Y .T) z)) d (killed A s)
-        | no d ↦ x .kills A s q a (omega arith) ]
+        | yes d ↦ subst (λ (z : ℕ). Kills K n A (corner K m (Y .B)) (column K (Y .T) z)) d (killed A s)
+        | no d ↦ x .kills A s q a (omega arith)
+      ]
 
       pub probe-turn : Probing n k m (suc j) X W
       probe-turn = record {
-        change = change; headed = headed; flat = rows-equal K m (Y .B) (W .B) rows (x .flat);
-        kills = λ A s q a g. rw same (subst (λ (v : Vector K). Kills K n A (corner K m (Y .B)) v) (λ k i. sym (columns i q a) k) (at A s q a g)) }
-
-  -- at e_j: the block's polynomial kills it as it stands, or it is joined to e_0
-  abbrev pub Tried : (n k m j : ℕ) → Frame K → Frame K → Type 0
-  Tried n k m j Y W = (Kills K n (Y .B) (corner K m (Y .B)) (delta K j) × (W ≡ Y)) ⊎ Joined n k j Y W
-
-  pub tried-headed : (n k m j : ℕ) (X Y W : Frame K) → Probing n k m j X Y → Tried n k m j Y W → (h : ℕ) × Headed K k h W
-  tried-headed n k m j X Y W x (inl (a, e)) = (m, subst (Headed K k m) (sym e) (x .headed))
-  tried-headed n k m j X Y W x (inr J) = (J .h, chained-headed K n k (J .Z) (J .h) W (J .chained))
-
-  pub tried-longer : (n k m j : ℕ) (X Y W : Frame K) → k ≤ n → m ≤ j → j < k → FrameWithin K n Y → (x : Probing n k m j X Y) (t : Tried n k m j Y W) → m < tried-headed n k m j X Y W x t .0 → Probed n k m X (tried-headed n k m j X Y W x t .0) W
-  unfolding tried-headed
-  tried-longer n k m j X Y W kn mj jk y x (inl a) l = absurd (omega arith)
-  tried-longer n k m j X Y W kn mj jk y x (inr J) l = probe-longer n k m j X Y W kn mj jk y x J l
-
-  pub tried-turn : (n k m j : ℕ) (X Y W : Frame K) → k ≤ n → m ≤ j → j < k → FrameWithin K n Y → (x : Probing n k m j X Y) (t : Tried n k m j Y W) → tried-headed n k m j X Y W x t .0 ≤ m → Probing n k m (suc j) X W
-  unfolding tried-headed
-  tried-turn n k m j X Y W kn mj jk y x (inl (a, e)) l = subst (Probing n k m (suc j) X) (sym e) (probe-skip n k m j X Y (omega arith) x a)
-  tried-turn n k m j X Y W kn mj jk y x (inr J) l = probe-turn n k m j X Y W kn mj jk y x J l
+        change = change;
+        headed = headed;
+        flat = rows-equal K m (Y .B) (W .B) rows (x .flat);
+        kills = λ A s q a g. rw same (subst (λ (v : Vector K). Kills K n A (corner K m (Y .B)) v) (λ k i. sym (columns i q a) k) (at A s q a g));
+      }
 
   pub probed-of-settled : (n k m : ℕ) (X : Frame K) (h : ℕ) (Y : Frame K) → Settled K n k m X h Y → m < h → Probed n k m X h Y
   probed-of-settled n k m X h Y s l = record { change = s .change; headed = s .headed; grown = omega arith; flat = λ e. absurd (omega arith); kills = λ e. absurd (omega arith) }
 
   pub probed-then : (n k m : ℕ) (X Y : Frame K) (h : ℕ) (Z : Frame K) → Change K n k X Y → Probed n k m Y h Z → Probed n k m X h Z
   probed-then n k m X Y h Z c x = record {
-    change = change-then K n k c (x .change); headed = x .headed; grown = x .grown; flat = x .flat; kills = λ e A s. x .kills e A (c .basis A s) }
+    change = change-then K n k c (x .change);
+    headed = x .headed;
+    grown = x .grown;
+    flat = x .flat;
+    kills = λ e A s. x .kills e A (c .basis A s);
+  }
 
   -- the window is a block of m and the rest, and the block's polynomial kills all of it
   pub record Split (n k : ℕ) (X : Frame K) (m : ℕ) (Y : Frame K) : Type 0 where
@@ -201,4 +201,5 @@ module _ {R : Type 0} (K : Ring R) where
     change = change-then K n k c (x .change);
     headed = subst (λ (q : ℕ). Headed K k q Z) e (x .headed);
     flat = x .flat e;
-    kills = λ A s. x .kills e A (c .basis A s) }
+    kills = λ A s. x .kills e A (c .basis A s);
+  }

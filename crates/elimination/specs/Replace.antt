@@ -3,8 +3,8 @@ use mathlib.Core.Path.{_≡_, refl, sym, _∙_, ap, ap₂}
 use mathlib.Core.Logic.{_≢_}
 use Prim.Native.Nat.{ℕ, _≤_, _<_}
 use native.Mathlib.Omega.{arith}
-use Rattle.algebra.specs.Ring.{Ring, plus-zero, zero-plus, times-zero, zero-times, plus-minus, minus-zero}
-use Rattle.algebra.specs.Solver.{_:+_, _:*_, :-_, :1, solve₃, solve₄}
+use Rattle.algebra.specs.Ring.{Ring, plus-minus}
+use Rattle.algebra.specs.Solver.{_:+_, _:*_, :-_, :1, solve₃}
 use Rattle.algebra.specs.Sum.{sum, sum-equal, sum-of-plus, sum-of-minus, delta, delta-same, delta-other, sum-of-delta}
 use Rattle.algebra.specs.Matrix.{Matrix, Vector, Within, Upto, product, apply, inner}
 use Rattle.algebra.specs.Elementary.{elementary}
@@ -14,10 +14,10 @@ use Rattle.elimination.specs.Shear.{taken, taken-zero, Sheared, sheared-
 
 module _ {R : Type 0} (K : Ring R) where
   open Ring K using (plus as _⊕_, times as _⊗_, minus as ⊖_, zero as 𝟘, one as 𝟙)
+
   infixl 60 _⊕_
   infixl 70 _⊗_
   infix 80 ⊖_
-
   -- what is added to e_s
   unfoldable pub added : ℕ → Vector K → Vector K
   added s w i = w i ⊕ ⊖ (delta K s i)
@@ -46,19 +46,19 @@ module _ {R : Type 0} (K : Ring R) where
   unfolding apply added
   apply-added n s w A l i =
       sum-equal K _ (λ k. A i k ⊗ w k ⊕ ⊖ (delta K s k ⊗ A i k)) n (λ k g. solve₃ K (λ b w e. b :* (w :+ :- e)) (λ b w e. b :* w :+ :- (e :* b)) refl (A i k) (w k) (delta K s k))
-    ∙ sum-of-plus K _ _ n ∙ ap (λ x. sum K (λ k. A i k ⊗ w k) n ⊕ x) (sum-of-minus K _ n ∙ ap ⊖_ (sum-of-delta K s (A i) n l))
+      ∙ sum-of-plus K _ _ n ∙ ap (λ x. sum K (λ k. A i k ⊗ w k) n ⊕ x) (sum-of-minus K _ n ∙ ap ⊖_ (sum-of-delta K s (A i) n l))
 
   pub column-other : (n s : ℕ) (w : Vector K) (A : Matrix K) → Within K n A → (i j : ℕ) → s ≢ j → product K n A (elementary K n (added s w) (delta K s)) i j ≡ A i j
   column-other n s w A a i j h = product-elementary-at K n A (added s w) (delta K s) a i j ∙ plus-times-zero K _ _ _ (delta-other K s j h)
 
   pub column-same : (n s : ℕ) (w : Vector K) (A : Matrix K) → s < n → Within K n A → (i : ℕ) → product K n A (elementary K n (added s w) (delta K s)) i s ≡ apply K n A w i
   column-same n s w A l a i = product-elementary-at K n A (added s w) (delta K s) a i s ∙ ap₂ (λ x y. A i s ⊕ x ⊗ y) (apply-added n s w A l i) (delta-same K s)
-    ∙ solve₃ K (λ a b c. a :+ (b :+ :- a) :* :1) (λ a b c. b) refl (A i s) (apply K n A w i) 𝟘
+      ∙ solve₃ K (λ a b c. a :+ (b :+ :- a) :* :1) (λ a b c. b) refl (A i s) (apply K n A w i) 𝟘
 
   module _ (n s : ℕ) (w : Vector K) (X Y : Frame K) (l : s < n) (h : Upto K n w) (x : FrameWithin K n X) (m : Replaced n s w X Y) where
     entry : (i j : ℕ) → Y .B i j ≡ product K n (X .B) (elementary K n (added s w) (delta K s)) i j ⊕ taken K (added s w) (m .by) i ⊗ product K n (X .B) (elementary K n (added s w) (delta K s)) s j
     entry i j = sheared-at K n n (added s w) (delta K s) X Y (omega arith) x (added-upto n s w l h) (delta-upto n s l) m i j
-      ∙ ap (λ y. product K n (X .B) (elementary K n (added s w) (delta K s)) i j ⊕ taken K (added s w) (m .by) i ⊗ y) (combine-delta K n s _ j l)
+        ∙ ap (λ y. product K n (X .B) (elementary K n (added s w) (delta K s)) i j ⊕ taken K (added s w) (m .by) i ⊗ y) (combine-delta K n s _ j l)
 
     pub pivot-unit : w s ⊗ m .by ≡ 𝟙
     pivot-unit = sym (ap (λ y. y ⊗ m .by) (pivot-is n s w l)) ∙ m .unit

@@ -1,14 +1,13 @@
 -- The basis in another order: the rotation that brings the first m of [0,k) behind the others.
-use mathlib.Core.Path.{_≡_, refl, sym, _∙_, ap, ap₂}
+use mathlib.Core.Path.{_≡_, sym, _∙_, ap}
 use mathlib.Core.Logic.{_≢_}
 use Prim.Native.Nat.{ℕ, zero, suc, _+_, _-_, _≤_, _<_}
-use native.Mathlib.Decide.{decLt, ℕ-discrete}
+use native.Mathlib.Decide.{decLt}
 use native.Mathlib.Omega.{arith}
 use Rattle.algebra.specs.Choice.{below, below-inside, below-outside}
 use Rattle.algebra.specs.Ring.{Ring}
 use Rattle.algebra.specs.Sum.{delta, delta-same, delta-other}
-use Rattle.algebra.specs.Matrix.{Matrix, Within, matrix-equal, identity, identity-inside, identity-within, product, product-within}
-use Rattle.algebra.specs.Inverse.{Inverse}
+use Rattle.algebra.specs.Matrix.{Matrix, matrix-equal, identity, identity-inside, identity-within, product, product-within}
 use Rattle.algebra.specs.Shapes.{permutation, permutation-inside, permutation-within, Permutes, permutes-back, product-permutation, permutation-product, permutation-inverse}
 use Rattle.elimination.specs.Frame.{Frame, FrameWithin, Inside, Change, change-by}
 use Rattle.elimination.specs.Shapes.{CompanionColumns, Ahead}
@@ -34,10 +33,12 @@ rotation-below m k i h g = elim (decLt i (k - m)) [ yes a ↦ omega (arith, rota
 
 rotation-forth : (m k i : ℕ) → m ≤ k → rotation m k (rotation (k - m) k i) ≡ i
 rotation-forth m k i h = elim (decLt i k) [
-    yes g ↦ elim (decLt i m) [
-        yes a ↦ ap (rotation m k) (rotation-low (k - m) k i (omega arith)) ∙ rotation-middle m k (i + (k - m)) (omega arith) (omega arith) ∙ omega arith
-      | no a ↦ (let e : rotation (k - m) k i ≡ i - m = rotation-middle (k - m) k i (omega arith) g ∙ omega arith in ap (rotation m k) e ∙ rotation-low m k (i - m) (omega arith) ∙ omega arith) ]
-  | no g ↦ ap (rotation m k) (rotation-high (k - m) k i (omega arith)) ∙ rotation-high m k i (omega arith) ]
+  | yes g ↦ elim (decLt i m) [
+    | yes a ↦ ap (rotation m k) (rotation-low (k - m) k i (omega arith)) ∙ rotation-middle m k (i + (k - m)) (omega arith) (omega arith) ∙ omega arith
+    | no a ↦ (let e : rotation (k - m) k i ≡ i - m = rotation-middle (k - m) k i (omega arith) g ∙ omega arith in ap (rotation m k) e ∙ rotation-low m k (i - m) (omega arith) ∙ omega arith)
+  ]
+  | no g ↦ ap (rotation m k) (rotation-high (k - m) k i (omega arith)) ∙ rotation-high m k i (omega arith)
+]
 
 rotation-back : (m k i : ℕ) → m ≤ k → rotation (k - m) k (rotation m k i) ≡ i
 rotation-back m k i h = (let e : m ≡ k - (k - m) = omega arith in ap (λ (x : ℕ). rotation (k - m) k (rotation x k i)) e ∙ rotation-forth (k - m) k i (omega arith))
@@ -50,7 +51,8 @@ rotation-permutes n m k h g = record {
   below = λ i l. rotation-inside n m k i h g l;
   back-below = λ i l. rotation-inside n (k - m) k i (omega arith) g l;
   back = λ i l. rotation-back m k i h;
-  forth = λ i l. rotation-forth m k i h }
+  forth = λ i l. rotation-forth m k i h;
+}
 
 module _ {R : Type 0} (K : Ring R) where
   open Ring K using (zero as 𝟘, one as 𝟙)
@@ -64,38 +66,43 @@ module _ {R : Type 0} (K : Ring R) where
   module _ (n k : ℕ) (σ τ : ℕ → ℕ) (P : Permutes n σ τ) (kn : k ≤ n) (inside : (i : ℕ) → i < k → σ i < k) (fixed : (i : ℕ) → k ≤ i → σ i ≡ i) where
     entry : (i j : ℕ) → delta K i (σ j) ≡ delta K i j → permutation K n σ i j ≡ identity K n i j
     entry i j e = elim (decLt i n) [
-        yes l ↦ elim (decLt j n) [
-            yes g ↦ permutation-inside K n σ i j l g ∙ e ∙ sym (identity-inside K n i j l)
-          | no g ↦ permutation-within K n σ .columns i j (omega arith) ∙ sym (identity-within K n .columns i j (omega arith)) ]
-      | no l ↦ permutation-within K n σ .rows i j (omega arith) ∙ sym (identity-within K n .rows i j (omega arith)) ]
+      | yes l ↦ elim (decLt j n) [
+        | yes g ↦ permutation-inside K n σ i j l g ∙ e ∙ sym (identity-inside K n i j l)
+        | no g ↦ permutation-within K n σ .columns i j (omega arith) ∙ sym (identity-within K n .columns i j (omega arith))
+      ]
+      | no l ↦ permutation-within K n σ .rows i j (omega arith) ∙ sym (identity-within K n .rows i j (omega arith))
+    ]
 
     permutation-inside-window : Inside K n k (permutation K n σ)
     permutation-inside-window = record {
       rows = λ i j l. entry i j (elim (decLt j k) [
-          yes g ↦ delta-other K i (σ j) (λ e. omega (arith, inside j g, e)) ∙ sym (delta-other K i j (λ e. omega arith))
-        | no g ↦ ap (delta K i) (fixed j (omega arith)) ]);
-      columns = λ i j l. entry i j (ap (delta K i) (fixed j l)) }
+        | yes g ↦ delta-other K i (σ j) (λ e. omega (arith, inside j g, e)) ∙ sym (delta-other K i j (λ e. omega arith))
+        | no g ↦ ap (delta K i) (fixed j (omega arith))
+      ]);
+      columns = λ i j l. entry i j (ap (delta K i) (fixed j l));
+    }
 
   module _ (n k : ℕ) (σ τ : ℕ → ℕ) (P : Permutes n σ τ) (kn : k ≤ n) (inside : (i : ℕ) → i < k → σ i < k) (fixed : (i : ℕ) → k ≤ i → σ i ≡ i)
       (back-inside : (i : ℕ) → i < k → τ i < k) (back-fixed : (i : ℕ) → k ≤ i → τ i ≡ i) (X Y : Frame K) (x : FrameWithin K n X) (y : FrameWithin K n Y) (r : Reordered n σ X Y) where
     M : Matrix K
     M = permutation K n σ
+
     J : Matrix K
     J = permutation K n τ
 
     pub reordered-change : Change K n k X Y
     unfolding M J
     reordered-change = change-by K n k X Y M J kn x (permutation-inverse K n σ τ P)
-      (permutation-inside-window n k σ τ P kn inside fixed) (permutation-inside-window n k τ σ (permutes-back n σ τ P) kn back-inside back-fixed)
-      (matrix-equal K n _ _ (y .B) (product-within K n J _ (permutation-within K n τ) (product-within K n _ M (x .B) (permutation-within K n σ))) (λ i j l g.
+        (permutation-inside-window n k σ τ P kn inside fixed) (permutation-inside-window n k τ σ (permutes-back n σ τ P) kn back-inside back-fixed)
+        (matrix-equal K n _ _ (y .B) (product-within K n J _ (permutation-within K n τ) (product-within K n _ M (x .B) (permutation-within K n σ))) (λ i j l g.
         r .B i j l g ∙ sym (permutation-product K n τ σ (permutes-back n σ τ P) (product K n (X .B) M) i j l ∙ product-permutation K n σ τ P (X .B) (σ i) j g)))
-      (matrix-equal K n _ _ (y .T) (product-within K n _ M (x .T) (permutation-within K n σ)) (λ i j l g. r .T i j l g ∙ sym (product-permutation K n σ τ P (X .T) i j g)))
-      (matrix-equal K n _ _ (y .I) (product-within K n J _ (permutation-within K n τ) (x .I)) (λ i j l g. r .I i j l g ∙ sym (permutation-product K n τ σ (permutes-back n σ τ P) (X .I) i j l)))
+        (matrix-equal K n _ _ (y .T) (product-within K n _ M (x .T) (permutation-within K n σ)) (λ i j l g. r .T i j l g ∙ sym (product-permutation K n σ τ P (X .T) i j g)))
+        (matrix-equal K n _ _ (y .I) (product-within K n J _ (permutation-within K n τ) (x .I)) (λ i j l g. r .I i j l g ∙ sym (permutation-product K n τ σ (permutes-back n σ τ P) (X .I) i j l)))
 
   -- the rotation of the part [0,h) of a window [0,k)
   pub rotated-change : (n m h k : ℕ) (X Y : Frame K) → m ≤ h → h ≤ k → k ≤ n → FrameWithin K n X → FrameWithin K n Y → Reordered n (rotation m h) X Y → Change K n k X Y
   rotated-change n m h k X Y l g a x y r = reordered-change n k (rotation m h) (rotation (h - m) h) (rotation-permutes n m h l (omega arith)) a
-    (stays m l) (λ i q. rotation-high m h i (omega arith)) (stays (h - m) (omega arith)) (λ i q. rotation-high (h - m) h i (omega arith)) X Y x y r
+      (stays m l) (λ i q. rotation-high m h i (omega arith)) (stays (h - m) (omega arith)) (λ i q. rotation-high (h - m) h i (omega arith)) X Y x y r
     where
       stays : (m : ℕ) → m ≤ h → (i : ℕ) → i < k → rotation m h i < k
       stays m l i q = rotation-inside k m h i l g q
@@ -134,4 +141,5 @@ module _ {R : Type 0} (K : Ring R) where
     inserted-ahead = record {
       pivot = λ t a b. pivot-at t b;
       before-it = λ t d a b e. before-at t d a b e;
-      after = λ t d a b e. elim (decLt d n) [ yes h ↦ row t d b h ∙ zeros t (σ d) a b (σ-far d e) | no h ↦ y .B .columns (suc t) d (omega arith) ] }
+      after = λ t d a b e. elim (decLt d n) [ yes h ↦ row t d b h ∙ zeros t (σ d) a b (σ-far d e) | no h ↦ y .B .columns (suc t) d (omega arith) ];
+    }

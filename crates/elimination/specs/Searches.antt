@@ -1,21 +1,18 @@
 -- What the loops find and collect: a column, the first entry that is not zero, a row's entries from m on with the other sign, and how long
 -- the block at the head of a window is.
-use mathlib.Core.Path.{_≡_, refl, sym, _∙_, ap, subst}
+use mathlib.Core.Path.{_≡_, sym, _∙_, ap}
 use mathlib.Core.Logic.{_≢_}
 use mathlib.Core.List.{List, []}
-use Prim.Native.Nat.{ℕ, zero, suc, _+_, _-_, _%_, _≤_, _<_}
-use native.Mathlib.Nat.{mod-lt}
+use Prim.Native.Nat.{ℕ, zero, suc, _-_, _%_, _≤_, _<_}
 use native.Mathlib.Decide.{decLt}
 use native.Mathlib.Omega.{arith}
 use lib.ListN.{getD}
-use Rattle.forms.specs.Numbers.{order-limit}
 use Rattle.algebra.specs.Choice.{below, below-inside, below-outside}
-use Rattle.algebra.specs.Ring.{Ring}
 use Rattle.algebra.specs.Sum.{delta, delta-same}
 use Rattle.algebra.specs.Matrix.{Upto}
 use Rattle.algebra.specs.Modular.{residue, modulo, residue-zero, residue-remainder, residue-minus, Prime, one-is-not-zero}
 use Rattle.matrices.specs.Filling.{filled, filled-inside, filled-outside}
-use Rattle.matrices.specs.Matrices.{cell, vector, matrix, vector-inside, vector-upto, matrix-inside, FieldRow, FieldMatrix, zero-row, zero-row-at, filled-row}
+use Rattle.matrices.specs.Matrices.{cell, vector, vector-inside, vector-upto, FieldRow, FieldMatrix, zero-row, zero-row-at, filled-row}
 use Rattle.elimination.specs.Settle.{Headed}
 use Rattle.elimination.specs.State.{Array, State, frame, Fields, zero-entry, entry-nonzero}
 
@@ -50,18 +47,18 @@ module _ (p n m k : ℕ) (x : List ℕ) (h : 0 < p) (kn : k ≤ n) (f : FieldRow
   pub tail-before : (t : ℕ) → t < m → getD (tail-of p m k x) t 0 ≡ 0
   tail-before t l = elim (decLt t k) [ yes g ↦ tail-at t g ∙ below-inside m t _ _ l | no g ↦ tail-outside t (omega arith) ]
 
-  residue-of-zero : (t y : ℕ) → y ≡ 0 → residue p y ≡ modulo p .zero
-  residue-of-zero t y e = ap (residue p) e ∙ residue-zero p
+  residue-of-zero : (y : ℕ) → y ≡ 0 → residue p y ≡ modulo p .zero
+  residue-of-zero y e = ap (residue p) e ∙ residue-zero p
 
   pub tail-low : (t : ℕ) → t < m → vector p n (tail-of p m k x) t ≡ modulo p .zero
-  tail-low t l = elim (decLt t n) [ yes g ↦ vector-inside p n _ t g ∙ residue-of-zero t _ (tail-before t l) | no g ↦ vector-upto p n _ t (omega arith) ]
+  tail-low t l = elim (decLt t n) [ yes g ↦ vector-inside p n _ t g ∙ residue-of-zero _ (tail-before t l) | no g ↦ vector-upto p n _ t (omega arith) ]
 
   pub tail-upto : Upto (modulo p) k (vector p n (tail-of p m k x))
-  tail-upto t l = elim (decLt t n) [ yes g ↦ vector-inside p n _ t g ∙ residue-of-zero t _ (tail-outside t l) | no g ↦ vector-upto p n _ t (omega arith) ]
+  tail-upto t l = elim (decLt t n) [ yes g ↦ vector-inside p n _ t g ∙ residue-of-zero _ (tail-outside t l) | no g ↦ vector-upto p n _ t (omega arith) ]
 
   pub tail-high : (t : ℕ) → m ≤ t → t < k → vector p n (tail-of p m k x) t ≡ modulo p .minus (residue p (getD x t 0))
   tail-high t l g = vector-inside p n _ t (omega arith) ∙ ap (residue p) (tail-at t g ∙ below-outside m t _ _ l) ∙ residue-remainder p _ h
-    ∙ residue-minus p (getD x t 0) (omega (arith, f .small t (omega arith))) h
+      ∙ residue-minus p (getD x t 0) (omega (arith, f .small t (omega arith))) h
 
 -- column j has something below the diagonal, in the window [0,k)
 abbrev pub HasPivot : ℕ → Array → ℕ → Type 0
@@ -76,9 +73,11 @@ pub record Reach (k : ℕ) (b : Array) (r : ℕ) : Type 0 where
 
 pub reach-is : (p n k m r : ℕ) (s : State) → Prime p → k ≤ n → Fields p n s → Headed (modulo p) k m (frame p n s) → Reach k (getD s 0 []) r → m ≡ r
 reach-is p n k m r s P kn f x y = elim (decLt r m) [
-    yes a ↦ absurd (one-is-not-zero p P (sym (x .columns .unit r (r - 1) (omega (arith, y .some)) ∙ ap (λ (q : ℕ). delta (modulo p) q r) (omega (arith, y .some)) ∙ delta-same (modulo p) r)
+  | yes a ↦ absurd (one-is-not-zero p P (sym (x .columns .unit r (r - 1) (omega (arith, y .some)) ∙ ap (λ (q : ℕ). delta (modulo p) q r) (omega (arith, y .some)) ∙ delta-same (modulo p) r)
       ∙ zero-entry p n (getD s 0 []) r (r - 1) (omega (arith, x .fits)) (omega (arith, x .fits)) (y .stop r (omega arith) (omega (arith, x .fits)))))
   | no a ↦ elim (decLt m r) [
-      yes c ↦ (let v : HasPivot k (getD s 0 []) (m - 1) = y .on (m - 1) (omega (arith, x .some)) in
+    | yes c ↦ (let v : HasPivot k (getD s 0 []) (m - 1) = y .on (m - 1) (omega (arith, x .some)) in
         absurd (entry-nonzero p n (getD s 0 []) (v .0) (m - 1) (f .B) (omega (arith, v .2)) (omega (arith, x .fits, x .some)) (v .3) (x .columns .low (v .0) (m - 1) (omega (arith, v .1)) (omega (arith, x .some)))))
-    | no c ↦ omega arith ] ]
+    | no c ↦ omega arith
+  ]
+]

@@ -1,33 +1,28 @@
 -- Behind the block of a pass stands N, [C N; 0 B']. Its rows but the first are wiped; if something is left in row 0, that basis vector goes first
 -- and a pass from there makes a longer block.
-use mathlib.Core.Path.{_≡_, refl, sym, _∙_, ap, ap₂, subst}
+use mathlib.Core.Path.{_≡_, refl, _∙_, subst}
 use mathlib.Core.Logic.{_≢_}
 use Prim.Native.Nat.{ℕ, suc, _≤_, _<_}
 use native.Mathlib.Decide.{decLt, ℕ-discrete}
 use native.Mathlib.Omega.{arith}
 use Rattle.algebra.specs.Ring.{Ring}
-use Rattle.algebra.specs.Sum.{delta}
-use Rattle.algebra.specs.Matrix.{Matrix}
 use Rattle.elimination.specs.Frame.{Frame, FrameWithin, Window, Change, change-none, change-then}
 use Rattle.elimination.specs.Shapes.{CompanionColumns, columns-of-units, columns-equal, CompanionRows}
 use Rattle.elimination.specs.Rotation.{rotation, Reordered, rotated-change, inserted-ahead}
-use Rattle.elimination.specs.Pass.{Ready, Chained}
+use Rattle.elimination.specs.Pass.{Chained}
 
 module _ {R : Type 0} (K : Ring R) where
   open Ring K using (plus as _⊕_, times as _⊗_, minus as ⊖_, zero as 𝟘, one as 𝟙)
+
   infixl 60 _⊕_
   infixl 70 _⊗_
   infix 80 ⊖_
-
   -- a companion block of m at the head of the window [0,k)
   pub record Headed (k m : ℕ) (X : Frame K) : Type 0 where
     pub some : 0 < m
     pub fits : m ≤ k
     pub columns : CompanionColumns K m (X .B)
     pub window : Window K k (X .B)
-
-  pub headed-ready : (k m : ℕ) (X : Frame K) → Headed k m X → Ready K k 0 X
-  headed-ready k m X h = record { window = h .window; columns = λ i t g. absurd (omega arith) }
 
   -- row a + 1 is wiped from column m on
   pub record Wiped (n k m a : ℕ) (X Y : Frame K) : Type 0 where
@@ -53,8 +48,10 @@ module _ {R : Type 0} (K : Ring R) where
     change = change-then K n k (x .change) (y .change);
     columns = λ i t g. y .columns i t g ∙ x .columns i t g;
     zeros = λ i t g h e. elim (ℕ-discrete (suc a) i) [
-        yes d ↦ subst (λ (q : ℕ). Z .B q t ≡ 𝟘) d (y .zeros t e)
-      | no d ↦ y .rows i t (omega arith) d ∙ x .zeros i t (omega arith) h e ] }
+      | yes d ↦ subst (λ (q : ℕ). Z .B q t ≡ 𝟘) d (y .zeros t e)
+      | no d ↦ y .rows i t (omega arith) d ∙ x .zeros i t (omega arith) h e
+    ];
+  }
 
   pub cleared-headed : (n k m r : ℕ) (X Y : Frame K) → Headed k m X → Cleared n k m r X Y → Headed k m Y
   cleared-headed n k m r X Y h c = record { some = h .some; fits = h .fits; columns = columns-equal K m (X .B) (Y .B) (c .columns) (h .columns); window = c .change .window (h .window) }
@@ -69,25 +66,35 @@ module _ {R : Type 0} (K : Ring R) where
   -- row 0 has nothing either
   pub settled-same : (n k m : ℕ) (X Y : Frame K) → Headed k m X → Cleared n k m 0 X Y → ((t : ℕ) → m ≤ t → t < k → Y .B 0 t ≡ 𝟘) → Settled n k m X m Y
   settled-same n k m X Y x c z =
-    let y = cleared-headed n k m 0 X Y x c in
-    record {
-      change = c .change; headed = y; grown = omega arith;
-      flat = λ e. record {
-        unit = λ i t g h. y .columns .unit i t h;
-        right = λ i t g h. elim (ℕ-discrete 0 i) [
-            yes d ↦ subst (λ (q : ℕ). Y .B q t ≡ 𝟘) d (elim (decLt t k) [ yes u ↦ z t h u | no u ↦ y .window .right 0 t (omega (arith, x .some, x .fits)) (omega arith) ])
-          | no d ↦ c .zeros i t (omega arith) g h ] } }
+      let y = cleared-headed n k m 0 X Y x c in
+      record {
+        change = c .change;
+        headed = y;
+        grown = omega arith;
+        flat = λ e. record {
+          unit = λ i t g h. y .columns .unit i t h;
+          right = λ i t g h. elim (ℕ-discrete 0 i) [
+            | yes d ↦ subst (λ (q : ℕ). Y .B q t ≡ 𝟘) d (elim (decLt t k) [ yes u ↦ z t h u | no u ↦ y .window .right 0 t (omega (arith, x .some, x .fits)) (omega arith) ])
+            | no d ↦ c .zeros i t (omega arith) g h
+          ];
+        };
+      }
 
   pub chained-headed : (n k : ℕ) (X : Frame K) (m : ℕ) (Y : Frame K) → Chained K n k X m Y → Headed k m Y
   chained-headed n k X m Y c = let e : m ≡ suc (c .j) = c .is in record {
-    some = omega arith; fits = omega (arith, c .high);
+    some = omega arith;
+    fits = omega (arith, c .high);
     columns = rw e (columns-of-units K (c .j) (Y .B) (c .passed .ready .columns) (c .stop));
-    window = c .passed .ready .window }
+    window = c .passed .ready .window;
+  }
 
   pub settled-longer : 𝟙 ≢ 𝟘 → (n k m j h : ℕ) (X Y Z W : Frame K) → k ≤ n → m ≤ j → j < k → FrameWithin K n Y → FrameWithin K n Z → Headed k m X → Cleared n k m 0 X Y → Y .B 0 j ≢ 𝟘
-    → Reordered K n (rotation j (suc j)) Y Z → Chained K n k Z h W → Settled n k m X h W
+      → Reordered K n (rotation j (suc j)) Y Z → Chained K n k Z h W → Settled n k m X h W
   settled-longer distinct n k m j h X Y Z W kn mj jk y z x c some r w =
-    let up : m < h = w .longer m (inserted-ahead K n m j Y Z distinct (x .some) mj (omega arith) z (cleared-headed n k m 0 X Y x c .columns) (c .zeros) some r) in
-    record {
-      change = change-then K n k (c .change) (change-then K n k (rotated-change K n j (suc j) k Y Z (omega arith) jk kn y z r) (w .passed .change));
-      headed = chained-headed n k Z h W w; grown = omega arith; flat = λ e. absurd (omega arith) }
+      let up : m < h = w .longer m (inserted-ahead K n m j Y Z distinct (x .some) mj (omega arith) z (cleared-headed n k m 0 X Y x c .columns) (c .zeros) some r) in
+      record {
+        change = change-then K n k (c .change) (change-then K n k (rotated-change K n j (suc j) k Y Z (omega arith) jk kn y z r) (w .passed .change));
+        headed = chained-headed n k Z h W w;
+        grown = omega arith;
+        flat = λ e. absurd (omega arith);
+      }

@@ -1,6 +1,6 @@
 -- The shapes that a pass makes and keeps: columns e_1, e_2, .., the rows of a companion block, and rows with something just below the
 -- diagonal that the pass has not reached yet.
-use mathlib.Core.Path.{_≡_, refl, sym, _∙_, ap, ap₂, subst}
+use mathlib.Core.Path.{_≡_, refl, _∙_, subst}
 use mathlib.Core.Logic.{_≢_}
 use Prim.Native.Nat.{ℕ, zero, suc, _≤_, _<_}
 use native.Mathlib.Decide.{ℕ-discrete}
@@ -12,10 +12,10 @@ use Rattle.elimination.specs.Frame.{Frame}
 
 module _ {R : Type 0} (K : Ring R) where
   open Ring K using (plus as _⊕_, times as _⊗_, minus as ⊖_, zero as 𝟘, one as 𝟙)
+
   infixl 60 _⊕_
   infixl 70 _⊗_
   infix 80 ⊖_
-
   -- the first j columns are e_1 .. e_j
   abbrev pub UnitColumns : ℕ → Matrix K → Type 0
   UnitColumns j B = (i t : ℕ) → t < j → B i t ≡ delta K (suc t) i
@@ -45,8 +45,10 @@ module _ {R : Type 0} (K : Ring R) where
   columns-of-units j B u z = record {
     unit = λ i t l. u i t (omega arith);
     low = λ i t g l. elim (ℕ-discrete j t) [
-        yes e ↦ subst (λ (y : ℕ). B i y ≡ 𝟘) e (z i (omega arith))
-      | no e ↦ u i t (omega arith) ∙ delta-other K (suc t) i (omega arith) ] }
+      | yes e ↦ subst (λ (y : ℕ). B i y ≡ 𝟘) e (z i (omega arith))
+      | no e ↦ u i t (omega arith) ∙ delta-other K (suc t) i (omega arith)
+    ];
+  }
 
   pub columns-equal : (m : ℕ) (B C : Matrix K) → ((i t : ℕ) → t < m → C i t ≡ B i t) → CompanionColumns m B → CompanionColumns m C
   columns-equal m B C e h = record { unit = λ i t g. e i t (omega arith) ∙ h .unit i t g; low = λ i t g l. e i t l ∙ h .low i t g l }

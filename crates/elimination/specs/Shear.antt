@@ -10,10 +10,10 @@ use Rattle.elimination.specs.Frame.{Frame, FrameWithin, Inside, Change, 
 
 module _ {R : Type 0} (K : Ring R) where
   open Ring K using (plus as _⊕_, times as _⊗_, minus as ⊖_, zero as 𝟘, one as 𝟙)
+
   infixl 60 _⊕_
   infixl 70 _⊗_
   infix 80 ⊖_
-
   -- - d u
   abbrev pub taken : Vector K → R → Vector K
   taken u d i = ⊖ (u i ⊗ d)
@@ -38,9 +38,9 @@ module _ {R : Type 0} (K : Ring R) where
 
     pub sheared-change : Change K n k X Y
     sheared-change = change-by K n k X Y (elementary K n u v) (elementary K n (taken u (s .by)) v) l x
-      (elementary-unit-inverse K n u v (s .by) (longer u a) (longer v b) (s .unit))
-      (elementary-inside n k u v a b) (elementary-inside n k (taken u (s .by)) v (λ i g. taken-zero u (s .by) i (a i g)) b) (s .B) (s .T) (s .I)
+        (elementary-unit-inverse K n u v (s .by) (longer u a) (longer v b) (s .unit))
+        (elementary-inside n k u v a b) (elementary-inside n k (taken u (s .by)) v (λ i g. taken-zero u (s .by) i (a i g)) b) (s .B) (s .T) (s .I)
 
     pub sheared-at : (i j : ℕ) → Y .B i j ≡ product K n (X .B) (elementary K n u v) i j ⊕ taken u (s .by) i ⊗ combine K n v (product K n (X .B) (elementary K n u v)) j
     sheared-at i j = ap (λ (M : Matrix K). M i j) (s .B)
-      ∙ elementary-product-at K n _ (taken u (s .by)) v (product-within K n (X .B) _ (x .B) (elementary-within K n u v (longer u a) (longer v b))) i j
+        ∙ elementary-product-at K n _ (taken u (s .by)) v (product-within K n (X .B) _ (x .B) (elementary-within K n u v (longer u a) (longer v b))) i j

@@ -1,17 +1,16 @@
 -- The state of the elimination in code: B, T and the inverse of T, field matrices by value, as a frame modulo p.
-use mathlib.Core.Path.{_≡_, refl, sym, _∙_, ap, ap₂, fun-ext}
+use mathlib.Core.Path.{_≡_, sym, _∙_, ap, ap₂, fun-ext}
 use mathlib.Core.Logic.{_≢_}
 use mathlib.Core.List.{List, []}
-use Prim.Native.Nat.{ℕ, zero, suc, _+_, _*_, _-_, _%_, _≤_, _<_}
+use Prim.Native.Nat.{ℕ, zero, _+_, _*_, _-_, _%_, _≤_, _<_}
 use native.Mathlib.Nat.{mod-eq-of-lt}
 use native.Mathlib.Decide.{decLt}
 use native.Mathlib.Omega.{arith}
 use lib.Dec.{T}
 use lib.ListN.{getD}
 use Rattle.forms.specs.Numbers.{prime, order-limit}
-use Rattle.algebra.specs.Ring.{Ring, zero-plus, times-zero}
+use Rattle.algebra.specs.Ring.{zero-plus, times-zero}
 use Rattle.algebra.specs.Sum.{delta, delta-other}
-use Rattle.algebra.specs.Matrix.{Matrix, Vector}
 use Rattle.algebra.specs.Modular.{residue, modulo, residue-zero, residue-is-zero, one-is-not-zero}
 use Rattle.matrices.specs.Filling.{filled-inside}
 use Rattle.forms.specs.Primes.{prime-means}
@@ -72,15 +71,17 @@ nonzero-entry p n b i j l g h e = h (zero-entry p n b i j l g e)
 -- the vectors that the code makes
 pub unit-vector : (p n s : ℕ) → n ≤ order-limit → s < n → vector p n (unit-row s) ≡ delta (modulo p) s
 unit-vector p n s h l = fun-ext (λ i. elim (decLt i n) [
-    yes g ↦ vector-inside p n (unit-row s) i g ∙ unit-row-at s (omega arith) p i
-  | no g ↦ vector-upto p n (unit-row s) i (omega arith) ∙ sym (delta-other (modulo p) s i (omega arith)) ])
+  | yes g ↦ vector-inside p n (unit-row s) i g ∙ unit-row-at s (omega arith) p i
+  | no g ↦ vector-upto p n (unit-row s) i (omega arith) ∙ sym (delta-other (modulo p) s i (omega arith))
+])
 
 pub plus-row-vector : (p n : ℕ) (x : List ℕ) (k : ℕ) (y : List ℕ) → 0 < p → (i : ℕ) → vector p n (plus-row p n x k y) i ≡ modulo p .plus (vector p n x i) (modulo p .times (residue p k) (vector p n y i))
 plus-row-vector p n x k y h i = elim (decLt i n) [
-    yes l ↦ vector-inside p n (plus-row p n x k y) i l ∙ ap (residue p) (filled-inside n (λ j. (getD x j 0 + k * getD y j 0) % p) zero-row 0 i l) ∙ residue-plus-multiple p _ k _ h
+  | yes l ↦ vector-inside p n (plus-row p n x k y) i l ∙ ap (residue p) (filled-inside n (λ j. (getD x j 0 + k * getD y j 0) % p) zero-row 0 i l) ∙ residue-plus-multiple p _ k _ h
       ∙ ap₂ (λ a b. modulo p .plus a (modulo p .times (residue p k) b)) (sym (vector-inside p n x i l)) (sym (vector-inside p n y i l))
   | no l ↦ vector-upto p n (plus-row p n x k y) i (omega arith)
-      ∙ sym (ap₂ (λ a b. modulo p .plus a (modulo p .times (residue p k) b)) (vector-upto p n x i (omega arith)) (vector-upto p n y i (omega arith)) ∙ ap (modulo p .plus (modulo p .zero)) (times-zero (modulo p) _) ∙ zero-plus (modulo p) _) ]
+      ∙ sym (ap₂ (λ a b. modulo p .plus a (modulo p .times (residue p k) b)) (vector-upto p n x i (omega arith)) (vector-upto p n y i (omega arith)) ∙ ap (modulo p .plus (modulo p .zero)) (times-zero (modulo p) _) ∙ zero-plus (modulo p) _)
+]
 
 pub zero-vector : (p n i : ℕ) → vector p n zero-row i ≡ modulo p .zero
 zero-vector p n i = elim (decLt i n) [ yes l ↦ vector-inside p n zero-row i l ∙ ap (residue p) (zero-row-at i) ∙ residue-zero p | no l ↦ vector-upto p n zero-row i (omega arith) ]
@@ -88,13 +89,15 @@ zero-vector p n i = elim (decLt i n) [ yes l ↦ vector-inside p n zero-row i l 
 -- a row of a matrix, and a column
 pub row-vector : (p n : ℕ) (m : Array) (i j : ℕ) → i < n → vector p n (getD m i []) j ≡ matrix p n m i j
 row-vector p n m i j l = elim (decLt j n) [
-    yes g ↦ vector-inside p n (getD m i []) j g ∙ sym (matrix-inside p n m i j l g)
-  | no g ↦ vector-upto p n (getD m i []) j (omega arith) ∙ sym (matrix-within p n m .columns i j (omega arith)) ]
+  | yes g ↦ vector-inside p n (getD m i []) j g ∙ sym (matrix-inside p n m i j l g)
+  | no g ↦ vector-upto p n (getD m i []) j (omega arith) ∙ sym (matrix-within p n m .columns i j (omega arith))
+]
 
 pub column-vector : (p n j : ℕ) (m : Array) (w : List ℕ) → j < n → ((i : ℕ) → i < n → getD w i 0 ≡ cell m i j) → (i : ℕ) → vector p n w i ≡ matrix p n m i j
 column-vector p n j m w l h i = elim (decLt i n) [
-    yes g ↦ vector-inside p n w i g ∙ ap (residue p) (h i g) ∙ sym (matrix-inside p n m i j g l)
-  | no g ↦ vector-upto p n w i (omega arith) ∙ sym (matrix-within p n m .rows i j (omega arith)) ]
+  | yes g ↦ vector-inside p n w i g ∙ ap (residue p) (h i g) ∙ sym (matrix-inside p n m i j g l)
+  | no g ↦ vector-upto p n w i (omega arith) ∙ sym (matrix-within p n m .rows i j (omega arith))
+]
 
 pub field-row : (p n : ℕ) (m : Array) (i : ℕ) → i < n → FieldMatrix p n m → FieldRow p n (getD m i [])
 field-row p n m i l f = record { small = λ j g. f .small i j l g; rest = λ j g. f .columns i j g }

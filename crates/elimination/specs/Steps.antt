@@ -10,36 +10,36 @@ use native.Mathlib.Numerals.{add-one}
 use lib.Dec.{T}
 use lib.ListN.{length, getD, set, length-set, length-replicate}
 use lib.Seq.{ext-getD, getD-set-same, getD-set-other}
-use Rattle.forms.specs.Numbers.{prime, order-limit, total}
+use Rattle.forms.specs.Numbers.{order-limit, total}
 use Rattle.forms.specs.Reciprocals.{InverseOf}
-use Rattle.algebra.specs.Ring.{Ring, zero-plus, plus-zero, times-one, times-zero, zero-times}
+use Rattle.algebra.specs.Ring.{zero-plus, plus-zero, times-one, times-zero, zero-times}
 use Rattle.algebra.specs.Solver.{_:+_, _:*_, :-_, solve₃}
-use Rattle.algebra.specs.Sum.{sum, sum-equal, delta, delta-same, delta-other}
-use Rattle.algebra.specs.Matrix.{Matrix, Vector, Within, Upto, vector-equal, matrix-plus, matrix-plus-within, product, product-within, apply, apply-at, combine, combine-upto, inner}
+use Rattle.algebra.specs.Sum.{sum-equal, delta, delta-other}
+use Rattle.algebra.specs.Matrix.{Vector, vector-equal, matrix-plus, matrix-plus-within, product, product-within, apply, apply-at, combine, combine-upto, inner}
 use Rattle.algebra.specs.Elementary.{outer, outer-within, elementary, elementary-within, product-elementary, elementary-product}
 use Rattle.algebra.specs.Modular.{residue, modulo, residue-one, residue-times, residue-remainder, residue-zero, residue-minus, minus-one-times}
 use Rattle.matrices.specs.Filling.{filled, filled-inside, filled-outside, fill-start, fill-turn}
-use Rattle.forms.specs.Primes.{prime-means}
 use Rattle.matrices.specs.Matrices.{cell, vector, matrix, vector-inside, vector-upto, matrix-inside, matrix-within, matrix-is, FieldRow, FieldMatrix, zero-row, zero-rows, zero-row-at, filled-row, filled-cell, filled-field}
 use Rattle.forms.specs.Rings.{total-residue}
 use Rattle.matrices.specs.Products.{product-row}
-use Rattle.matrices.specs.Rows.{plus-row, residue-plus-multiple, unit-row}
+use Rattle.matrices.specs.Rows.{plus-row, unit-row}
 use Rattle.elimination.specs.Entries.{apply-delta, combine-delta, inner-none}
 use Rattle.elimination.specs.Shear.{taken, Sheared}
 use Rattle.elimination.specs.Replace.{added, added-upto, pivot-is, column-same, column-other, Replaced}
-use Rattle.elimination.specs.State.{Array, State, frame, frame-within, unit-vector, plus-row-vector, zero-vector, row-vector, column-vector}
+use Rattle.elimination.specs.State.{Array, State, frame, unit-vector, plus-row-vector, zero-vector, row-vector, column-vector}
 
 filled-length : {A : Type 0} (n : ℕ) (f : ℕ → A) (d : List A) → n ≤ length d → length (filled n f d) ≡ length d
 filled-length zero f d h = ap length (sym (fill-start d f))
 filled-length (suc n) f d h =
     ap (λ (k : ℕ). length (filled k f d)) (sym (add-one n)) ∙ ap length (sym (fill-turn d n f (omega arith) refl refl)) ∙ length-set (filled n f d) n (f n)
-  ∙ filled-length n f d (omega arith)
+    ∙ filled-length n f d (omega arith)
 
 -- nothing is added by the multiple 0
 pub plus-row-nothing : (p n : ℕ) (x y : List ℕ) → n ≤ order-limit → length x ≡ order-limit → FieldRow p n x → x ≡ plus-row p n x 0 y
 plus-row-nothing p n x y h e f = ext-getD 0 x (plus-row p n x 0 y) (e ∙ sym (filled-length n _ zero-row (omega (arith, length-replicate {A = ℕ} order-limit 0)) ∙ length-replicate {A = ℕ} order-limit 0)) (λ i l. elim (decLt i n) [
-    yes g ↦ sym (filled-inside n (λ j. (getD x j 0 + 0 * getD y j 0) % p) zero-row 0 i g ∙ ap (λ (z : ℕ). (getD x i 0 + z) % p) (zero-mul _) ∙ ap (λ (z : ℕ). z % p) (add-zero _) ∙ mod-eq-of-lt (f .small i g))
-  | no g ↦ f .rest i (omega arith) ∙ sym (filled-outside n _ zero-row 0 i (omega arith) ∙ zero-row-at i) ])
+  | yes g ↦ sym (filled-inside n (λ j. (getD x j 0 + 0 * getD y j 0) % p) zero-row 0 i g ∙ ap (λ (z : ℕ). (getD x i 0 + z) % p) (zero-mul _) ∙ ap (λ (z : ℕ). z % p) (add-zero _) ∙ mod-eq-of-lt (f .small i g))
+  | no g ↦ f .rest i (omega arith) ∙ sym (filled-outside n _ zero-row 0 i (omega arith) ∙ zero-row-at i)
+])
 
 -- m + c zᵀ
 abbrev pub outer-rows : (p n : ℕ) → Array → List ℕ → List ℕ → Array
@@ -54,8 +54,9 @@ unfolding matrix-plus outer
 plus-outer p n m c z r h e = rw e (record {
   is = matrix-is p n _ _ (matrix-plus-within (modulo p) n _ _ (matrix-within p n m) (outer-within (modulo p) n _ _ (vector-upto p n c) (vector-upto p n z))) (λ i j l g.
       ap (residue p) (filled-cell n (λ i. plus-row p n (getD m i []) (getD c i 0) z) i j l) ∙ sym (vector-inside p n (plus-row p n (getD m i []) (getD c i 0) z) j g)
-    ∙ plus-row-vector p n (getD m i []) (getD c i 0) z h j ∙ ap₂ (λ a b. modulo p .plus a (modulo p .times b (vector p n z j))) (row-vector p n m i j l) (sym (vector-inside p n c i l)));
-  field = filled-field p n _ (λ i l. filled-row p n _ (λ j g. mod-lt _ h)) })
+      ∙ plus-row-vector p n (getD m i []) (getD c i 0) z h j ∙ ap₂ (λ a b. modulo p .plus a (modulo p .times b (vector p n z j))) (row-vector p n m i j l) (sym (vector-inside p n c i l)));
+  field = filled-field p n _ (λ i l. filled-row p n _ (λ j g. mod-lt _ h));
+})
 
 -- column s becomes m w
 abbrev pub entry-of : (p n : ℕ) → List ℕ → List ℕ → ℕ
@@ -71,50 +72,54 @@ pub record ColumnSet (p n s : ℕ) (w : List ℕ) (m r : Array) : Type 0 where
 module _ (p n s : ℕ) (w : List ℕ) (m : Array) (h : 0 < p) (l : s < n) (wide : (i : ℕ) → i < n → s < length (getD m i [])) where
   entry-residue : (i : ℕ) → i < n → residue p (entry-of p n (getD m i []) w) ≡ apply (modulo p) n (matrix p n m) (vector p n w) i
   entry-residue i g = residue-remainder p _ h ∙ total-residue p n _
-    ∙ sum-equal (modulo p) _ _ n (λ k q. residue-times p _ _ ∙ ap₂ (modulo p .times) (sym (matrix-inside p n m i k g q)) (sym (vector-inside p n w k q)))
-    ∙ sym (apply-at (modulo p) n _ _ i)
+      ∙ sum-equal (modulo p) _ _ n (λ k q. residue-times p _ _ ∙ ap₂ (modulo p .times) (sym (matrix-inside p n m i k g q)) (sym (vector-inside p n w k q)))
+      ∙ sym (apply-at (modulo p) n _ _ i)
 
   column-cell : (i j : ℕ) → i < n → cell (column-rows p n s w m) i j ≡ getD (set (getD m i []) s (entry-of p n (getD m i []) w)) j 0
   column-cell i j g = filled-cell n (λ i. set (getD m i []) s (entry-of p n (getD m i []) w)) i j g
 
   column-entry : (i j : ℕ) → i < n → j < n → residue p (cell (column-rows p n s w m) i j) ≡ product (modulo p) n (matrix p n m) (elementary (modulo p) n (added (modulo p) s (vector p n w)) (delta (modulo p) s)) i j
   column-entry i j g q = ap (residue p) (column-cell i j g) ∙ elim (ℕ-discrete s j) [
-      yes e ↦ subst (λ (y : ℕ). residue p (getD (set (getD m i []) s (entry-of p n (getD m i []) w)) y 0) ≡ product (modulo p) n (matrix p n m) (elementary (modulo p) n (added (modulo p) s (vector p n w)) (delta (modulo p) s)) i y) e
+    | yes e ↦ subst (λ (y : ℕ). residue p (getD (set (getD m i []) s (entry-of p n (getD m i []) w)) y 0) ≡ product (modulo p) n (matrix p n m) (elementary (modulo p) n (added (modulo p) s (vector p n w)) (delta (modulo p) s)) i y) e
         (ap (residue p) (getD-set-same (getD m i []) s _ 0 (wide i g)) ∙ entry-residue i g ∙ sym (column-same (modulo p) n s (vector p n w) (matrix p n m) l (matrix-within p n m) i))
-    | no e ↦ ap (residue p) (getD-set-other (getD m i []) s j _ 0 (λ d. e (sym d))) ∙ sym (matrix-inside p n m i j g q) ∙ sym (column-other (modulo p) n s (vector p n w) (matrix p n m) (matrix-within p n m) i j e) ]
+    | no e ↦ ap (residue p) (getD-set-other (getD m i []) s j _ 0 (λ d. e (sym d))) ∙ sym (matrix-inside p n m i j g q) ∙ sym (column-other (modulo p) n s (vector p n w) (matrix p n m) (matrix-within p n m) i j e)
+  ]
 
   column-row : FieldMatrix p n m → (i : ℕ) → i < n → FieldRow p n (set (getD m i []) s (entry-of p n (getD m i []) w))
   column-row f i g = record {
     small = λ j q. elim (ℕ-discrete s j) [
-        yes e ↦ subst (λ (y : ℕ). getD (set (getD m i []) s (entry-of p n (getD m i []) w)) y 0 < p) e (rw (getD-set-same (getD m i []) s (entry-of p n (getD m i []) w) 0 (wide i g)) (mod-lt _ h))
-      | no e ↦ rw (getD-set-other (getD m i []) s j (entry-of p n (getD m i []) w) 0 (λ d. e (sym d))) (f .small i j g q) ];
-    rest = λ j q. getD-set-other (getD m i []) s j _ 0 (λ e. omega arith) ∙ f .columns i j q }
+      | yes e ↦ subst (λ (y : ℕ). getD (set (getD m i []) s (entry-of p n (getD m i []) w)) y 0 < p) e (rw (getD-set-same (getD m i []) s (entry-of p n (getD m i []) w) 0 (wide i g)) (mod-lt _ h))
+      | no e ↦ rw (getD-set-other (getD m i []) s j (entry-of p n (getD m i []) w) 0 (λ d. e (sym d))) (f .small i j g q)
+    ];
+    rest = λ j q. getD-set-other (getD m i []) s j _ 0 (λ e. omega arith) ∙ f .columns i j q;
+  }
 
   pub column-set : FieldMatrix p n m → (r : Array) → r ≡ column-rows p n s w m → ColumnSet p n s w m r
   column-set f r e = rw e (record {
     is = matrix-is p n _ _ (product-within (modulo p) n _ _ (matrix-within p n m) (elementary-within (modulo p) n _ _ (added-upto (modulo p) n s (vector p n w) l (vector-upto p n w)) (λ i g. delta-other (modulo p) s i (omega arith)))) column-entry;
-    field = filled-field p n _ (column-row f) })
+    field = filled-field p n _ (column-row f);
+  })
 
 -- a row operation: c times row s is added
 rows-added : (p n s : ℕ) (c : List ℕ) (m r : Array) (u : Vector (modulo p)) → s < n → vector p n c ≡ u → PlusOuter p n m c (getD m s []) r
-  → matrix p n r ≡ product (modulo p) n (elementary (modulo p) n u (delta (modulo p) s)) (matrix p n m)
+    → matrix p n r ≡ product (modulo p) n (elementary (modulo p) n u (delta (modulo p) s)) (matrix p n m)
 rows-added p n s c m r u l e x = x .is
-  ∙ ap₂ (λ a b. matrix-plus (modulo p) (matrix p n m) (outer (modulo p) a b)) e (fun-ext (λ j. row-vector p n m s j l ∙ sym (combine-delta (modulo p) n s (matrix p n m) j l)))
-  ∙ sym (elementary-product (modulo p) n (matrix p n m) u (delta (modulo p) s) (matrix-within p n m))
+    ∙ ap₂ (λ a b. matrix-plus (modulo p) (matrix p n m) (outer (modulo p) a b)) e (fun-ext (λ j. row-vector p n m s j l ∙ sym (combine-delta (modulo p) n s (matrix p n m) j l)))
+    ∙ sym (elementary-product (modulo p) n (matrix p n m) u (delta (modulo p) s) (matrix-within p n m))
 
 -- a column operation: v times column a is added
 columns-added : (p n a : ℕ) (c v : List ℕ) (m r : Array) → a < n → ((i : ℕ) → i < n → getD c i 0 ≡ cell m i a) → PlusOuter p n m c v r
-  → matrix p n r ≡ product (modulo p) n (matrix p n m) (elementary (modulo p) n (delta (modulo p) a) (vector p n v))
+    → matrix p n r ≡ product (modulo p) n (matrix p n m) (elementary (modulo p) n (delta (modulo p) a) (vector p n v))
 columns-added p n a c v m r l e x = x .is
-  ∙ ap (λ w. matrix-plus (modulo p) (matrix p n m) (outer (modulo p) w (vector p n v))) (fun-ext (λ i. column-vector p n a m c l e i) ∙ sym (apply-delta (modulo p) n (matrix p n m) a l))
-  ∙ sym (product-elementary (modulo p) n (matrix p n m) (delta (modulo p) a) (vector p n v) (matrix-within p n m))
+    ∙ ap (λ w. matrix-plus (modulo p) (matrix p n m) (outer (modulo p) w (vector p n v))) (fun-ext (λ i. column-vector p n a m c l e i) ∙ sym (apply-delta (modulo p) n (matrix p n m) a l))
+    ∙ sym (product-elementary (modulo p) n (matrix p n m) (delta (modulo p) a) (vector p n v) (matrix-within p n m))
 
 -- v m, as a row
 row-times : (p n : ℕ) (v : List ℕ) (m : Array) → 0 < p → vector p n (product-row p n v m) ≡ combine (modulo p) n (vector p n v) (matrix p n m)
 unfolding combine
 row-times p n v m h = vector-equal (modulo p) n _ _ (vector-upto p n _) (combine-upto (modulo p) n _ _ (matrix-within p n m)) (λ j l.
     vector-inside p n (product-row p n v m) j l ∙ ap (residue p) (filled-inside n (λ j. total n (λ k. getD v k 0 * cell m k j) % p) zero-row 0 j l)
-  ∙ residue-remainder p _ h ∙ total-residue p n _ ∙ sum-equal (modulo p) _ _ n (λ k g. residue-times p _ _ ∙ ap₂ (modulo p .times) (sym (vector-inside p n v k g)) (sym (matrix-inside p n m k j g l))))
+    ∙ residue-remainder p _ h ∙ total-residue p n _ ∙ sum-equal (modulo p) _ _ n (λ k g. residue-times p _ _ ∙ ap₂ (modulo p .times) (sym (vector-inside p n v k g)) (sym (matrix-inside p n m k j g l))))
 
 -- the multiples of row s that replacing e_s by w takes, where d is the inverse of w_s
 abbrev pub multiples : (p n s : ℕ) → List ℕ → ℕ → List ℕ
@@ -125,21 +130,22 @@ module _ (p n s : ℕ) (w : List ℕ) (d : ℕ) (h : 0 < p) (o : n ≤ order-lim
   unfolding added
   multiples-vector = fun-ext (λ i.
       plus-row-vector p n (plus-row p n zero-row (p - d) w) d (unit-row s) h i
-    ∙ ap₂ (λ a b. modulo p .plus a (modulo p .times (residue p d) b)) (plus-row-vector p n zero-row (p - d) w h i ∙ ap₂ (λ a b. modulo p .plus a (modulo p .times b (vector p n w i))) (zero-vector p n i) (residue-minus p d (omega (arith, inverse .small)) h) ∙ zero-plus (modulo p) _)
-        (ap (λ (v : Vector (modulo p)). v i) (unit-vector p n s o l))
-    ∙ solve₃ (modulo p) (λ d w e. :- d :* w :+ d :* e) (λ d w e. :- ((w :+ :- e) :* d)) refl (residue p d) (vector p n w i) (delta (modulo p) s i))
+      ∙ ap₂ (λ a b. modulo p .plus a (modulo p .times (residue p d) b)) (plus-row-vector p n zero-row (p - d) w h i ∙ ap₂ (λ a b. modulo p .plus a (modulo p .times b (vector p n w i))) (zero-vector p n i) (residue-minus p d (omega (arith, inverse .small)) h) ∙ zero-plus (modulo p) _)
+      (ap (λ (v : Vector (modulo p)). v i) (unit-vector p n s o l))
+      ∙ solve₃ (modulo p) (λ d w e. :- d :* w :+ d :* e) (λ d w e. :- ((w :+ :- e) :* d)) refl (residue p d) (vector p n w i) (delta (modulo p) s i))
 
   unit-pivot : modulo p .times (vector p n w s) (residue p d) ≡ modulo p .one
   unit-pivot = ap (λ a. modulo p .times a (residue p d)) (vector-inside p n w s l) ∙ sym (residue-times p _ d) ∙ sym (residue-remainder p _ h) ∙ ap (residue p) (inverse .of-other (omega arith)) ∙ residue-one p
 
   pub replaced : (x : State) (c : List ℕ) (m b t f : Array) → c ≡ multiples p n s w d → ColumnSet p n s w (getD x 0 []) m → PlusOuter p n m c (getD m s []) b → ColumnSet p n s w (getD x 1 []) t
-    → PlusOuter p n (getD x 2 []) c (getD (getD x 2 []) s []) f → Replaced (modulo p) n s (vector p n w) (frame p n x) (frame p n (b ∷ t ∷ f ∷ []))
+      → PlusOuter p n (getD x 2 []) c (getD (getD x 2 []) s []) f → Replaced (modulo p) n s (vector p n w) (frame p n x) (frame p n (b ∷ t ∷ f ∷ []))
   replaced x c m b t f e cm rb ct rf = record {
     by = residue p d;
     unit = ap (λ a. modulo p .times a (residue p d)) (pivot-is (modulo p) n s (vector p n w) l) ∙ unit-pivot;
     B = rows-added p n s c m b _ l (ap (vector p n) e ∙ multiples-vector) rb ∙ ap (product (modulo p) n _) (cm .is);
     T = ct .is;
-    I = rows-added p n s c (getD x 2 []) f _ l (ap (vector p n) e ∙ multiples-vector) rf }
+    I = rows-added p n s c (getD x 2 []) f _ l (ap (vector p n) e ∙ multiples-vector) rf;
+  }
 
 -- - e_a
 abbrev pub opposite-unit : (p n a : ℕ) → List ℕ
@@ -149,25 +155,27 @@ module _ (p n a : ℕ) (v : List ℕ) (h : 0 < p) (o : n ≤ order-limit) (l : a
   opposite-vector : vector p n (opposite-unit p n a) ≡ taken (modulo p) (delta (modulo p) a) (modulo p .one)
   opposite-vector = fun-ext (λ i.
       plus-row-vector p n zero-row (p - 1) (unit-row a) h i
-    ∙ ap₂ (modulo p .plus) (zero-vector p n i) (ap (modulo p .times (residue p (p - 1))) (ap (λ (w : Vector (modulo p)). w i) (unit-vector p n a o l)) ∙ minus-one-times p _ h ∙ ap (modulo p .minus) (sym (times-one (modulo p) _)))
-    ∙ zero-plus (modulo p) _)
+      ∙ ap₂ (modulo p .plus) (zero-vector p n i) (ap (modulo p .times (residue p (p - 1))) (ap (λ (w : Vector (modulo p)). w i) (unit-vector p n a o l)) ∙ minus-one-times p _ h ∙ ap (modulo p .minus) (sym (times-one (modulo p) _)))
+      ∙ zero-plus (modulo p) _)
 
   orthogonal : inner (modulo p) n (vector p n v) (delta (modulo p) a) ≡ modulo p .zero
   orthogonal = inner-none (modulo p) n _ _ (λ q g. elim (ℕ-discrete a q) [
-      yes e ↦ ap (λ z. modulo p .times z (delta (modulo p) a q)) (subst (λ (y : ℕ). vector p n v y ≡ modulo p .zero) e (vector-inside p n v a l ∙ ap (residue p) zero-at ∙ residue-zero p)) ∙ zero-times (modulo p) _
-    | no e ↦ ap (modulo p .times (vector p n v q)) (delta-other (modulo p) a q e) ∙ times-zero (modulo p) _ ])
+    | yes e ↦ ap (λ z. modulo p .times z (delta (modulo p) a q)) (subst (λ (y : ℕ). vector p n v y ≡ modulo p .zero) e (vector-inside p n v a l ∙ ap (residue p) zero-at ∙ residue-zero p)) ∙ zero-times (modulo p) _
+    | no e ↦ ap (modulo p .times (vector p n v q)) (delta-other (modulo p) a q e) ∙ times-zero (modulo p) _
+  ])
 
   combined : (u w : List ℕ) (m r : Array) → u ≡ opposite-unit p n a → w ≡ product-row p n v m → PlusOuter p n m u w r → matrix p n r ≡ product (modulo p) n (elementary (modulo p) n (taken (modulo p) (delta (modulo p) a) (modulo p .one)) (vector p n v)) (matrix p n m)
   combined u w m r eu ew x = x .is ∙ ap₂ (λ a b. matrix-plus (modulo p) (matrix p n m) (outer (modulo p) a b)) (ap (vector p n) eu ∙ opposite-vector) (ap (vector p n) ew ∙ row-times p n v m h)
-    ∙ sym (elementary-product (modulo p) n (matrix p n m) _ (vector p n v) (matrix-within p n m))
+      ∙ sym (elementary-product (modulo p) n (matrix p n m) _ (vector p n v) (matrix-within p n m))
 
   -- v times e_a is added to the basis vectors
   pub spread : (x : State) (u c e y z : List ℕ) (m b t f : Array) → u ≡ opposite-unit p n a → ((i : ℕ) → i < n → getD c i 0 ≡ cell (getD x 0 []) i a) → ((i : ℕ) → i < n → getD e i 0 ≡ cell (getD x 1 []) i a)
-    → y ≡ product-row p n v m → z ≡ product-row p n v (getD x 2 []) → PlusOuter p n (getD x 0 []) c v m → PlusOuter p n m u y b → PlusOuter p n (getD x 1 []) e v t → PlusOuter p n (getD x 2 []) u z f
-    → Sheared (modulo p) n (delta (modulo p) a) (vector p n v) (frame p n x) (frame p n (b ∷ t ∷ f ∷ []))
+      → y ≡ product-row p n v m → z ≡ product-row p n v (getD x 2 []) → PlusOuter p n (getD x 0 []) c v m → PlusOuter p n m u y b → PlusOuter p n (getD x 1 []) e v t → PlusOuter p n (getD x 2 []) u z f
+      → Sheared (modulo p) n (delta (modulo p) a) (vector p n v) (frame p n x) (frame p n (b ∷ t ∷ f ∷ []))
   spread x u c e y z m b t f eu ec ee ey ez xm xb xt xf = record {
     by = modulo p .one;
     unit = ap (λ q. modulo p .times (modulo p .plus (modulo p .one) q) (modulo p .one)) orthogonal ∙ times-one (modulo p) _ ∙ plus-zero (modulo p) _;
     B = combined u y m b eu ey xb ∙ ap (product (modulo p) n _) (columns-added p n a c v (getD x 0 []) m l ec xm);
     T = columns-added p n a e v (getD x 1 []) t l ee xt;
-    I = combined u z (getD x 2 []) f eu ez xf }
+    I = combined u z (getD x 2 []) f eu ez xf;
+  }

@@ -1,13 +1,11 @@
 -- What the loops of the rotation compute, of field matrices.
-use mathlib.Core.Path.{_≡_, refl, sym, _∙_, ap, ap₂, subst}
+use mathlib.Core.Path.{_≡_, sym, _∙_, ap}
 use mathlib.Core.List.{List, [], _∷_}
 use Prim.Native.Nat.{ℕ, _≤_, _<_}
-use native.Mathlib.Omega.{arith}
 use lib.ListN.{getD}
 use Rattle.algebra.specs.Modular.{residue, modulo}
-use Rattle.algebra.specs.Shapes.{Permutes}
 use Rattle.matrices.specs.Filling.{filled, filled-inside}
-use Rattle.matrices.specs.Matrices.{cell, matrix, matrix-inside, FieldRow, FieldMatrix, zero-row, zero-rows, filled-row, filled-cell, filled-field}
+use Rattle.matrices.specs.Matrices.{cell, matrix, matrix-inside, FieldMatrix, zero-row, zero-rows, filled-row, filled-cell, filled-field}
 use Rattle.elimination.specs.Rotation.{rotation, rotation-permutes, Reordered}
 use Rattle.elimination.specs.State.{Array, State, frame, Fields, field-row}
 
@@ -51,7 +49,8 @@ module _ (p n m k : ℕ) (l : m ≤ k) (g : k ≤ n) (s : State) where
   turned-reordered = record {
     B = λ i j a b. rows-entry p n m k l g _ i j a b ∙ columns-entry p n m k l g (getD s 0 []) (rotation m k i) j (rotation-permutes n m k l g .below i a) b;
     T = columns-entry p n m k l g (getD s 1 []);
-    I = rows-entry p n m k l g (getD s 2 []) }
+    I = rows-entry p n m k l g (getD s 2 []);
+  }
 
   pub turned-fields : Fields p n s → Fields p n (turned-state n m k s)
   turned-fields f = record { B = rows-field p n m k l g _ (columns-field p n m k l g _ (f .B)); T = columns-field p n m k l g _ (f .T); I = rows-field p n m k l g _ (f .I) }

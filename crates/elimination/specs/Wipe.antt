@@ -1,25 +1,25 @@
 -- Row a + 1 is freed from column m on: its entries times e_a are taken from the basis vectors e_t, m ≤ t < k. Where column a is e_(a+1), only
 -- rows a and a + 1 change, and no column before m.
-use mathlib.Core.Path.{_≡_, sym, _∙_, ap, ap₂, subst}
+use mathlib.Core.Path.{_≡_, _∙_, ap, ap₂}
 use mathlib.Core.Logic.{_≢_}
 use Prim.Native.Nat.{ℕ, suc, _≤_, _<_}
-use native.Mathlib.Decide.{decLt, ℕ-discrete}
+use native.Mathlib.Decide.{decLt}
 use native.Mathlib.Omega.{arith}
-use Rattle.algebra.specs.Ring.{Ring, one-times, times-zero, zero-times, plus-minus, minus-plus, minus-zero}
+use Rattle.algebra.specs.Ring.{Ring, one-times, times-zero, zero-times, plus-minus}
 use Rattle.algebra.specs.Sum.{delta, delta-same, delta-other}
-use Rattle.algebra.specs.Matrix.{Matrix, Vector, Upto, product, apply, inner}
+use Rattle.algebra.specs.Matrix.{Matrix, Vector, Upto, product}
 use Rattle.algebra.specs.Elementary.{elementary}
-use Rattle.elimination.specs.Entries.{plus-zero-times, plus-times-zero, apply-delta, combine-none, inner-none, product-elementary-at}
+use Rattle.elimination.specs.Entries.{plus-zero-times, plus-times-zero, apply-delta, combine-none, product-elementary-at}
 use Rattle.elimination.specs.Frame.{Frame, FrameWithin, Window, Change}
 use Rattle.elimination.specs.Shear.{taken-zero, Sheared, sheared-change, sheared-at}
 use Rattle.elimination.specs.Shapes.{CompanionColumns}
 
 module _ {R : Type 0} (K : Ring R) where
   open Ring K using (plus as _⊕_, times as _⊗_, minus as ⊖_, zero as 𝟘, one as 𝟙)
+
   infixl 60 _⊕_
   infixl 70 _⊗_
   infix 80 ⊖_
-
   module _ (n k m a : ℕ) (v : Vector K) (X Y : Frame K) (l : suc a < m) (mk : m ≤ k) (kn : k ≤ n) (x : FrameWithin K n X)
       (v-low : (t : ℕ) → t < m → v t ≡ 𝟘) (v-high : (t : ℕ) → m ≤ t → t < k → v t ≡ ⊖ (X .B (suc a) t)) (v-upto : Upto K k v)
       (c : CompanionColumns K m (X .B)) (s : Sheared K n (delta K a) v X Y) where
@@ -44,10 +44,11 @@ module _ {R : Type 0} (K : Ring R) where
     pub wipe-columns : (i t : ℕ) → t < m → Y .B i t ≡ X .B i t
     unfolding C
     wipe-columns i t h = sheared-at K n k (delta K a) v X Y kn x unit-upto v-upto s i t
-      ∙ plus-times-zero K _ _ _ (combine-none K n v C t (λ q g. elim (decLt q m) [
-          yes y ↦ ap (λ z. z ⊗ C q t) (v-low q y) ∙ zero-times K _
-        | no y ↦ ap (λ z. v q ⊗ z) (low q ∙ c .low q t (omega arith) h) ∙ times-zero K _ ]))
-      ∙ low i
+        ∙ plus-times-zero K _ _ _ (combine-none K n v C t (λ q g. elim (decLt q m) [
+          | yes y ↦ ap (λ z. z ⊗ C q t) (v-low q y) ∙ zero-times K _
+          | no y ↦ ap (λ z. v q ⊗ z) (low q ∙ c .low q t (omega arith) h) ∙ times-zero K _
+        ]))
+        ∙ low i
       where
         low : (i : ℕ) → C i t ≡ X .B i t
         low i = C-at i t ∙ plus-times-zero K _ _ _ (v-low t h)
@@ -57,6 +58,7 @@ module _ {R : Type 0} (K : Ring R) where
 
     pub wipe-zero : Window K k (X .B) → (t : ℕ) → m ≤ t → Y .B (suc a) t ≡ 𝟘
     wipe-zero w t h = elim (decLt t k) [
-        yes g ↦ entry (suc a) t (λ e. omega arith) ∙ C-at (suc a) t ∙ ap₂ (λ y z. X .B (suc a) t ⊕ y ⊗ z) (delta-same K (suc a)) (v-high t h g)
+      | yes g ↦ entry (suc a) t (λ e. omega arith) ∙ C-at (suc a) t ∙ ap₂ (λ y z. X .B (suc a) t ⊕ y ⊗ z) (delta-same K (suc a)) (v-high t h g)
           ∙ ap (λ y. X .B (suc a) t ⊕ y) (one-times K _) ∙ plus-minus K _
-      | no g ↦ wipe-change .window w .right (suc a) t (omega arith) (omega arith) ]
+      | no g ↦ wipe-change .window w .right (suc a) t (omega arith) (omega arith)
+    ]

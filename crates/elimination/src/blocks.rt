@@ -1,33 +1,36 @@
 // The block at the head of the window grows until its polynomial kills the window.
 ghost use mathlib.Core.Path.{_≡_};
 ghost use mathlib.Core.Bool.{true};
-ghost use mathlib.Core.List.{List, []};
-ghost use Prim.Native.Nat.{ℕ, suc, _+_, _-_, _%_, _≤_, _<_};
+ghost use mathlib.Core.List.{[]};
+ghost use Prim.Native.Nat.{ℕ, _+_, _-_, _%_, _≤_, _<_};
 ghost use lib.ListN.{getD};
 ghost use Rattle.forms.specs.Numbers.{order-limit};
 ghost use Rattle.algebra.specs.Choice.{below};
 ghost use Rattle.algebra.specs.Modular.{modulo};
 ghost use Rattle.matrices.specs.Matrices.{matrix, FieldRow};
 ghost use Rattle.elimination.specs.Frame.{Window};
+ghost use Rattle.elimination.specs.Remainders.{factor-of};
 ghost use Rattle.elimination.specs.Shapes.{CompanionRows};
 ghost use Rattle.elimination.specs.Settle.{Headed, Wiped, Cleared, Settled};
-ghost use Rattle.elimination.specs.Probe.{Joined, Tried, Probed, Split};
+ghost use Rattle.elimination.specs.Probe.{Joined, Probed, Split};
 ghost use Rattle.elimination.specs.State.{frame, Fields, Given};
 ghost use Rattle.elimination.specs.Searches.{tail-of};
 ghost use Rattle.elimination.specs.Powers.{applied, KilledTest};
 use crate::passes::chain;
 use crate::passes::reach;
+use crate::remainders::factor;
 use crate::steps::State;
+use crate::steps::add_multiple;
 use crate::steps::column;
 use crate::steps::first_nonzero;
 use crate::steps::inner;
 use crate::steps::plus_outer;
 use crate::steps::replace;
 use crate::turning::rotate;
-use matrices::inversion::plus_row;
-use matrices::Mat;
 use forms::ORDER;
+use matrices::Mat;
 use matrices::Row;
+use matrices::inversion::plus_row;
 use matrices::product_row;
 use matrices::unit_row;
 
@@ -70,8 +73,8 @@ fn wipe(s: State, a: usize, m: usize, k: usize, n: usize, p: u8) -> State
     let c = plus_outer(s[0], column(s[0], a, n), v, n, p);
     let b = plus_outer(c, u, product_row(v, c, n, p), n, p);
     let t = plus_outer(s[1], column(s[1], a, n), v, n, p);
-    let f = plus_outer(s[2], u, product_row(v, s[2], n, p), n, p);
-    [b, t, f]
+    let i = plus_outer(s[2], u, product_row(v, s[2], n, p), n, p);
+    [b, t, i]
 }
 
 // Rows 1 .. m - 1 are wiped.
@@ -102,14 +105,14 @@ fn settle(s: State, m: usize, k: usize, n: usize, p: u8) -> State
 }
 
 // b g
-fn apply(b: Mat, g: Row, n: usize, p: u8) -> Row
-    requires { ⌜ (n ≤ order-limit) × (0 < p) ⌝ }
+fn apply(b: Mat, g: Row, n: usize, p: u8, factor: u64) -> Row
+    requires { ⌜ (n ≤ order-limit) × (0 < p) × (factor ≡ factor-of p) ⌝ }
     ensures { λ r. ⌜ r ≡ applied p n b g ⌝ }
 {
     let mut r = [0u8; ORDER];
     let mut i = 0;
     while i < n {
-        r[i] = inner(b[i], g, n, p);
+        r[i] = inner(b[i], g, n, p, factor);
         i = i + 1;
     }
     r
@@ -134,12 +137,13 @@ fn killed(b: Mat, j: usize, m: usize, n: usize, p: u8) -> bool
     requires { ⌜ (n ≤ order-limit) × (0 < p) × (j < n) × (0 < m) × (m ≤ n) ⌝ }
     ensures { λ r. ⌜ KilledTest p n m j b r ⌝ }
 {
+    let f = factor(p);
     let mut g = unit_row(j);
     let mut v = [0u8; ORDER];
     let mut e = 0;
     while e < m {
-        let y = plus_row(v, b[e][m - 1], g, n, p);
-        let x = apply(b, g, n, p);
+        let y = add_multiple(v, b[e][m - 1], g, n, p, f);
+        let x = apply(b, g, n, p, f);
         v = y;
         g = x;
         e = e + 1;
@@ -156,17 +160,6 @@ fn join(s: State, j: usize, k: usize, n: usize, p: u8) -> State
     chain(replace(s, 0, w, n, p), k, n, p)
 }
 
-// Whether the block's polynomial kills e_j is tried as it stands, and else by a pass.
-fn probe_at(s: State, j: usize, m: usize, k: usize, n: usize, p: u8) -> State
-    requires { ⌜ Given p n k s × (0 < m) × (m ≤ j) × (j < k) × Window (modulo p) k (matrix p n (getD s 0 [])) ⌝ }
-    ensures { λ r. ⌜ Fields p n r × Tried (modulo p) n k m j (frame p n s) (frame p n r) ⌝ }
-{
-    if killed(s[0], j, m, n, p) {
-        return s;
-    }
-    join(s, j, k, n, p)
-}
-
 // Nothing is left behind the block: a longer one is made, or the block's polynomial kills the window.
 fn probe(mut s: State, m: usize, k: usize, n: usize, p: u8) -> State
     requires { ⌜ Given p n k s × Headed (modulo p) k m (frame p n s) × CompanionRows (modulo p) m (matrix p n (getD s 0 [])) ⌝ }
@@ -174,7 +167,11 @@ fn probe(mut s: State, m: usize, k: usize, n: usize, p: u8) -> State
 {
     let mut j = m;
     while j < k {
-        let x = probe_at(s, j, m, k, n, p);
+        if killed(s[0], j, m, n, p) {
+            j = j + 1;
+            continue;
+        }
+        let x = join(s, j, k, n, p);
         s = x;
         if m < reach(s[0], k, n) {
             return s;

@@ -1,4 +1,5 @@
-// The analysis: a field matrix in a basis in which it is the block diagonal of companion blocks.
+// The elimination: a field matrix in a basis in which it is the block diagonal of companion blocks.
+pub mod remainders; // remainders by a multiplication
 pub mod steps; // rows and columns, and the changes of basis
 pub mod turning; // the basis in another order
 pub mod passes; // the pass that makes a block

@@ -1,5 +1,4 @@
 // The pass: column after column takes the place of the next basis vector, as long as it has a pivot in the window [0,k).
-ghost use mathlib.Core.Path.{_≡_};
 ghost use mathlib.Core.Logic.{_≢_};
 ghost use mathlib.Core.List.{[]};
 ghost use Prim.Native.Nat.{ℕ, suc, _+_, _≤_, _<_};
@@ -14,8 +13,8 @@ use crate::steps::State;
 use crate::steps::column;
 use crate::steps::first_nonzero;
 use crate::steps::replace;
-use matrices::inversion::plus_row;
 use matrices::Mat;
+use matrices::inversion::plus_row;
 use matrices::unit_row;
 
 // The first pivot of column j, at row q, comes to row j + 1.

@@ -1,20 +1,21 @@
 // Rows, columns, and the change of basis that replaces one vector.
 ghost use mathlib.Core.Path.{_≡_};
 ghost use mathlib.Core.Logic.{_≢_};
-ghost use mathlib.Core.List.{List, []};
-ghost use Prim.Native.Nat.{ℕ, _+_, _*_, _%_, _≤_, _<_};
+ghost use Prim.Native.Nat.{_≤_, _<_};
 ghost use lib.ListN.{getD, set};
-ghost use Rattle.forms.specs.Numbers.{total, order-limit};
+ghost use Rattle.forms.specs.Numbers.{order-limit};
 ghost use Rattle.algebra.specs.Modular.{modulo};
-ghost use Rattle.matrices.specs.Matrices.{cell, vector, FieldRow, FieldMatrix};
+ghost use Rattle.matrices.specs.Matrices.{vector, FieldRow, FieldMatrix};
 ghost use Rattle.matrices.specs.Rows.{plus-row};
+ghost use Rattle.elimination.specs.Remainders.{factor-of};
 ghost use Rattle.elimination.specs.Replace.{Replaced};
 ghost use Rattle.elimination.specs.State.{frame, Fields, Given};
 ghost use Rattle.elimination.specs.Steps.{PlusOuter, ColumnSet, entry-of};
 ghost use Rattle.elimination.specs.Searches.{column-of, FirstNonzero};
-use matrices::inversion::plus_row;
-use matrices::Mat;
+use crate::remainders::factor;
+use crate::remainders::remainder;
 use forms::ORDER;
+use matrices::Mat;
 use matrices::Row;
 use matrices::unit_row;
 use matrices::wide;
@@ -24,8 +25,8 @@ use residues::residue::reciprocal_of;
 pub type State = [Mat; 3];
 
 // x · y
-pub fn inner(x: Row, y: Row, n: usize, p: u8) -> u8
-    requires { ⌜ (n ≤ order-limit) × (0 < p) ⌝ }
+pub fn inner(x: Row, y: Row, n: usize, p: u8, factor: u64) -> u8
+    requires { ⌜ (n ≤ order-limit) × (0 < p) × (factor ≡ factor-of p) ⌝ }
     ensures { λ r. ⌜ r ≡ entry-of p n x y ⌝ }
 {
     let mut sum: u32 = 0;
@@ -36,18 +37,35 @@ pub fn inner(x: Row, y: Row, n: usize, p: u8) -> u8
         sum = sum + a * b;
         k = k + 1;
     }
-    (sum % (p as u32)) as u8
+    remainder(sum, p, factor)
+}
+
+// x + k y
+pub fn add_multiple(x: Row, k: u8, y: Row, n: usize, p: u8, factor: u64) -> Row
+    requires { ⌜ (n ≤ order-limit) × (0 < p) × (factor ≡ factor-of p) ⌝ }
+    ensures { λ r. ⌜ r ≡ plus-row p n x k y ⌝ }
+{
+    let b = wide(k);
+    let mut r = [0u8; ORDER];
+    let mut j = 0;
+    while j < n {
+        let a = wide(x[j]);
+        let c = wide(y[j]);
+        r[j] = remainder(a + b * c, p, factor);
+        j = j + 1;
+    }
+    r
 }
 
 // x + k y; there is nothing to do where k is 0.
-fn plus_multiple_row(x: Row, k: u8, y: Row, n: usize, p: u8) -> Row
-    requires { ⌜ (n ≤ order-limit) × (0 < p) × FieldRow p n x ⌝ }
+fn plus_multiple_row(x: Row, k: u8, y: Row, n: usize, p: u8, factor: u64) -> Row
+    requires { ⌜ (n ≤ order-limit) × (0 < p) × (factor ≡ factor-of p) × FieldRow p n x ⌝ }
     ensures { λ r. ⌜ r ≡ plus-row p n x k y ⌝ }
 {
     if k == 0 {
         return x;
     }
-    plus_row(x, k, y, n, p)
+    add_multiple(x, k, y, n, p, factor)
 }
 
 // m + c zᵀ
@@ -55,10 +73,11 @@ pub fn plus_outer(m: Mat, c: Row, z: Row, n: usize, p: u8) -> Mat
     requires { ⌜ (n ≤ order-limit) × (0 < p) × FieldMatrix p n m ⌝ }
     ensures { λ r. ⌜ PlusOuter p n m c z r ⌝ }
 {
+    let f = factor(p);
     let mut r = [[0u8; ORDER]; ORDER];
     let mut i = 0;
     while i < n {
-        r[i] = plus_multiple_row(m[i], c[i], z, n, p);
+        r[i] = plus_multiple_row(m[i], c[i], z, n, p, f);
         i = i + 1;
     }
     r
@@ -79,10 +98,11 @@ fn set_column(m: Mat, at: usize, w: Row, n: usize, p: u8) -> Mat
     requires { ⌜ (n ≤ order-limit) × (at < n) × (0 < p) × FieldMatrix p n m ⌝ }
     ensures { λ r. ⌜ ColumnSet p n at w m r ⌝ }
 {
+    let f = factor(p);
     let mut r = [[0u8; ORDER]; ORDER];
     let mut i = 0;
     while i < n {
-        let v = inner(m[i], w, n, p);
+        let v = inner(m[i], w, n, p, f);
         r[i] = with_entry(m[i], at, v);
         i = i + 1;
     }
@@ -95,14 +115,15 @@ pub fn replace(s: State, at: usize, w: Row, n: usize, p: u8) -> State
     ensures { λ r. ⌜ Fields p n r × Replaced (modulo p) n at (vector p n w) (frame p n s) (frame p n r) ⌝ }
 {
     let d = reciprocal_of(w[at], p);
+    let f = factor(p);
     let z = [0u8; ORDER];
     let e = unit_row(at);
-    let c = plus_row(plus_row(z, p - d, w, n, p), d, e, n, p);
+    let c = add_multiple(add_multiple(z, p - d, w, n, p, f), d, e, n, p, f);
     let m = set_column(s[0], at, w, n, p);
     let b = plus_outer(m, c, m[at], n, p);
     let t = set_column(s[1], at, w, n, p);
-    let f = plus_outer(s[2], c, s[2][at], n, p);
-    [b, t, f]
+    let i = plus_outer(s[2], c, s[2][at], n, p);
+    [b, t, i]
 }
 
 // Column j.

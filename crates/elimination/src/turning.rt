@@ -1,12 +1,12 @@
 // The basis in another order: m, .., k-1, 0, .., m-1, k, ..
 ghost use mathlib.Core.Path.{_≡_};
-ghost use Prim.Native.Nat.{ℕ, _≤_, _<_};
+ghost use Prim.Native.Nat.{_≤_, _<_};
 ghost use Rattle.forms.specs.Numbers.{order-limit};
 ghost use Rattle.elimination.specs.Rotation.{rotation};
 ghost use Rattle.elimination.specs.Turns.{turned-row, turned-columns, turned-rows, turned-state};
 use crate::steps::State;
-use matrices::Mat;
 use forms::ORDER;
+use matrices::Mat;
 use matrices::Row;
 
 fn turned(i: usize, m: usize, k: usize) -> usize
@@ -70,6 +70,6 @@ pub fn rotate(s: State, m: usize, k: usize, n: usize) -> State
 {
     let b = turn_rows(turn_columns(s[0], m, k, n), m, k, n);
     let t = turn_columns(s[1], m, k, n);
-    let f = turn_rows(s[2], m, k, n);
-    [b, t, f]
+    let i = turn_rows(s[2], m, k, n);
+    [b, t, i]
 }

@@ -21,6 +21,7 @@ pub mod OneRecord
 pub mod Layouts
 pub mod Findings
 pub mod Promises
+pub mod Prefixes
 pub mod Rings
 pub mod Bounds
 pub mod Remainders

@@ -1,3 +1,4 @@
+-- A certificate that is not read and a mark of no record find nothing; else the payload of the marked record, which is complete.
 use borrow.Author.Needs.{needs}
 use mathlib.Core.Path.{_∙_, ap}
 use Prim.Native.Nat.{ℕ}
@@ -5,13 +6,6 @@ use Rattle.forms.specs.Certificate.{part}
 use Rattle.certificate.specs.Found.{found-unread, found-unmarked, found-complete, found-marked}
 use Rattle.certificate.proofs.finding.find.Statement.{statement}
 use Rattle.certificate.proofs.finding.find.Tie as tie
-use Rattle.certificate.proofs.finding.find.Reads as reads
-use Rattle.certificate.proofs.finding.find.Lts as lts
-use Rattle.certificate.proofs.finding.nothing.Reads as nothing-reads
-use Rattle.certificate.proofs.finding.payload.Reads as payload-reads
-use Rattle.certificate.proofs.finding.record_marked.Reads as record-marked-reads
-use Rattle.certificate.proofs.reading.byte.Reads as byte-reads
-use Rattle.certificate.proofs.reading.read_certificate.Reads as read-certificate-reads
 
 read-certificate-requires : tie.Need-read-certificate-requires
 read-certificate-requires c κs = search needs

@@ -1,11 +1,9 @@
+-- The part between two starts of records, without the head, is the payload.
 use borrow.Author.Needs.{needs}
 use native.Mathlib.Omega.{arith}
 use Rattle.certificate.specs.Sizes.{offset-next, part-by-offsets}
 use Rattle.certificate.proofs.finding.payload.Statement.{statement}
 use Rattle.certificate.proofs.finding.payload.Tie as tie
-use Rattle.certificate.proofs.finding.payload.Reads as reads
-use Rattle.certificate.proofs.finding.payload.Lts as lts
-use Rattle.certificate.proofs.records.record_start.Reads as record-start-reads
 
 record-start-requires : tie.Need-record-start-requires
 record-start-requires c κs = search needs

@@ -1,3 +1,4 @@
+-- The loop: none of the records passed has this mark.
 use borrow.Author.Needs.{needs}
 use native.Mathlib.Omega.{arith}
 use mathlib.Core.Path.{sym, _∙_}
@@ -8,9 +9,6 @@ use Rattle.forms.specs.Operations.{is-mark}
 use Rattle.certificate.specs.Found.{marked-here, not-marked-here, marked-nowhere, not-two-bytes}
 use Rattle.certificate.proofs.finding.record_marked.Statement.{statement}
 use Rattle.certificate.proofs.finding.record_marked.Tie as tie
-use Rattle.certificate.proofs.finding.record_marked.Reads as reads
-use Rattle.certificate.proofs.finding.record_marked.Lts as lts
-use Rattle.certificate.proofs.records.is_marked.Reads as is-marked-reads
 
 abbrev Inv-loop : tie.InvT-loop
 Inv-loop m k₀ k = (k ≤ 10) × ((i : ℕ) → i < k → T (is-mark m i) → ⊥)

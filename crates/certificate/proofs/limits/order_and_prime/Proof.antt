@@ -1,3 +1,4 @@
+-- Each test of the code is one of the two questions.
 use borrow.Author.Needs.{needs}
 use mathlib.Core.Path.{sym, _∙_}
 use borrow.Author.Tests.{not-true, not-false}
@@ -8,9 +9,6 @@ use Prim.Native.Nat.{ℕ}
 use lib.Dec.{leb}
 use Rattle.certificate.proofs.limits.order_and_prime.Statement.{statement}
 use Rattle.certificate.proofs.limits.order_and_prime.Tie as tie
-use Rattle.certificate.proofs.limits.order_and_prime.Reads as reads
-use Rattle.certificate.proofs.limits.order_and_prime.Lts as lts
-use Rattle.residues.proofs.residue.is_prime.Reads as is-prime-reads
 
 abbrev ordered : ℕ → Bool
 ordered n = leb 1 n && leb n 12

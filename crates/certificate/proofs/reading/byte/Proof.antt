@@ -1,10 +1,9 @@
+-- Past the end of the list the definition reads 0 too.
 use borrow.Author.Needs.{needs}
 use mathlib.Core.Path.{refl, sym}
 use lib.ListN.{List·getD-eq-default}
 use Rattle.certificate.proofs.reading.byte.Statement.{statement}
 use Rattle.certificate.proofs.reading.byte.Tie as tie
-use Rattle.certificate.proofs.reading.byte.Reads as reads
-use Rattle.certificate.proofs.reading.byte.Lts as lts
 
 shared-slice-read-result : tie.Need-shared-slice-read-result
 shared-slice-read-result c = search needs

@@ -1,25 +1,21 @@
-use mathlib.Core.Path.{sym, _∙_}
+-- Each return says which of the four questions is the first that fails.
 use borrow.Author.Needs.{needs}
+use mathlib.Core.Path.{sym, _∙_}
 use borrow.Author.Tests.{le-leb, lt-leb, eq-eqb, ne-eqb, not-true, not-false}
 use Rattle.forms.specs.Answers.{ask}
 use Rattle.certificate.specs.ReadRecords.{frame-asked}
 use Rattle.certificate.proofs.reading.read_frame.Statement.{statement}
 use Rattle.certificate.proofs.reading.read_frame.Tie as tie
-use Rattle.certificate.proofs.reading.read_frame.Reads as reads
-use Rattle.certificate.proofs.reading.read_frame.Lts as lts
-use Rattle.certificate.proofs.reading.refused.Reads as refused-reads
-use Rattle.certificate.proofs.reading.stated_length.Reads as stated-length-reads
-use Rattle.certificate.proofs.records.is_marked.Reads as is-marked-reads
-
-add-if1 : tie.Need-add-if1
-add-if1 c = search needs
 
 refused-requires : tie.Need-refused-requires
 refused-requires c κs = search needs
 
+add-if1 : tie.Need-add-if1
+add-if1 c = search needs
+
 returns : tie.Need-returns
 unfolding frame-asked ask
-returns c = simp (lt-leb _ _ (c .before .if1 .taken)) (c .refused .ensures)
+returns c = simp (lt-leb _ _ (c .if1 .taken)) (c .before .refused .ensures)
 
 shared-slice-read-is-marked : tie.Need-shared-slice-read-is-marked
 shared-slice-read-is-marked c = search needs
@@ -68,7 +64,11 @@ unfolding frame-asked ask
 returns-3 c =
     let l = c .before .before in
     let m = l .before .before .before in
-    simp (le-leb _ _ (m .before .before .before .before .if1 .left), sym (m .before .is-marked .ensures) ∙ not-false (m .before .is-marked .result) (m .if2 .left), ne-eqb _ _ (λ e. c .before .if3 .taken (l .stated-length .ensures ∙ e))) (c .refused3 .ensures)
+    simp (
+      le-leb _ _ (m .before .before .before .before .if1 .left),
+      sym (m .before .is-marked .ensures) ∙ not-false (m .before .is-marked .result) (m .if2 .left),
+      ne-eqb _ _ (λ e. c .before .if3 .taken (l .stated-length .ensures ∙ e)),
+    ) (c .refused3 .ensures)
 
 add-if4 : tie.Need-add-if4
 add-if4 c = search needs
@@ -76,32 +76,40 @@ add-if4 c = search needs
 add-if4-2 : tie.Need-add-if4-2
 add-if4-2 c = search needs
 
-refused-requires-4 : tie.Need-refused-requires-4
-refused-requires-4 c κs = search needs
-
 returns-4 : tie.Need-returns-4
 unfolding frame-asked ask
 returns-4 c =
-    let l = c .before .before in
+    let l = c .before in
     let m = l .before .before .before .before in
-    simp (le-leb _ _ (m .before .before .before .before .if1 .left), sym (m .before .is-marked .ensures) ∙ not-false (m .before .is-marked .result) (m .if2 .left), eq-eqb _ _ (sym (l .before .stated-length .ensures) ∙ l .if3 .left), lt-leb _ _ (c .before .if4 .taken)) (c .refused4 .ensures)
+    let h = m .before .before .before .before in
+    simp (
+      le-leb _ _ (h .if1 .left),
+      sym (m .before .is-marked .ensures) ∙ not-false (m .before .is-marked .result) (m .if2 .left),
+      eq-eqb _ _ (sym (l .before .stated-length .ensures) ∙ l .if3 .left),
+      lt-leb _ _ (c .if4 .taken),
+    ) (h .before .refused .ensures)
 
-add-t7 : tie.Need-add-t7
-add-t7 c = search needs
+add-t8 : tie.Need-add-t8
+add-t8 c = search needs
 
 returns-5 : tie.Need-returns-5
 unfolding frame-asked ask
 returns-5 c =
     let l = c .before in
     let m = l .before .before .before .before in
-    simp (le-leb _ _ (m .before .before .before .before .if1 .left), sym (m .before .is-marked .ensures) ∙ not-false (m .before .is-marked .result) (m .if2 .left), eq-eqb _ _ (sym (l .before .stated-length .ensures) ∙ l .if3 .left), le-leb _ _ (c .if4 .left))
+    simp (
+      le-leb _ _ (m .before .before .before .before .if1 .left),
+      sym (m .before .is-marked .ensures) ∙ not-false (m .before .is-marked .result) (m .if2 .left),
+      eq-eqb _ _ (sym (l .before .stated-length .ensures) ∙ l .if3 .left),
+      le-leb _ _ (c .if4 .left),
+    )
 
 pub read-frame-spec : {M : Type 1} → statement M
 read-frame-spec =
     tie.close
     (tie.spec
-    add-if1
     refused-requires
+    add-if1
     returns
     shared-slice-read-is-marked
     add-is-marked
@@ -119,7 +127,6 @@ read-frame-spec =
     returns-3
     add-if4
     add-if4-2
-    refused-requires-4
     returns-4
-    add-t7
+    add-t8
     returns-5)

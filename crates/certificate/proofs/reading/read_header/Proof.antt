@@ -1,3 +1,4 @@
+-- The answer about n and p, as one about HD.
 use borrow.Author.Needs.{needs}
 use mathlib.Core.Path.{sym, _∙_, ap}
 use Prim.Native.Nat.{_+_}
@@ -5,9 +6,6 @@ use Rattle.forms.specs.Answers.{Asked}
 use Rattle.certificate.specs.ReadRecords.{limits-asked, read-of}
 use Rattle.certificate.proofs.reading.read_header.Statement.{statement}
 use Rattle.certificate.proofs.reading.read_header.Tie as tie
-use Rattle.certificate.proofs.reading.read_header.Reads as reads
-use Rattle.certificate.proofs.reading.read_header.Lts as lts
-use Rattle.certificate.proofs.limits.order_and_prime.Reads as order-and-prime-reads
 
 order-and-prime-requires : tie.Need-order-and-prime-requires
 order-and-prime-requires c κs = search needs

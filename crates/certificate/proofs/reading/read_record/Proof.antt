@@ -1,3 +1,4 @@
+-- The refusal of the frame is that of the record; else the record comes to its content.
 use borrow.Author.Needs.{needs}
 use native.Mathlib.Omega.{arith}
 use Rattle.certificate.specs.Sizes.{offset-small, size-small}
@@ -5,12 +6,6 @@ use Rattle.certificate.specs.ReadRecords.{record-bad, payload-start, pay
 use mathlib.Core.Path.{_∙_}
 use Rattle.certificate.proofs.reading.read_record.Statement.{statement}
 use Rattle.certificate.proofs.reading.read_record.Tie as tie
-use Rattle.certificate.proofs.reading.read_record.Reads as reads
-use Rattle.certificate.proofs.reading.read_record.Lts as lts
-use Rattle.certificate.proofs.reading.read_frame.Reads as read-frame-reads
-use Rattle.certificate.proofs.reading.read_header.Reads as read-header-reads
-use Rattle.certificate.proofs.reading.read_residues.Reads as read-residues-reads
-use Rattle.certificate.proofs.records.payload_size.Reads as payload-size-reads
 
 payload-size-requires : tie.Need-payload-size-requires
 payload-size-requires c κs = search needs

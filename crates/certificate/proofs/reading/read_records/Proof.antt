@@ -1,3 +1,4 @@
+-- The loop: the first k records refuse nothing, and the cursor stands where record k starts.
 use borrow.Author.Needs.{needs}
 use native.Mathlib.Omega.{arith}
 use mathlib.Core.Path.{_≡_, refl, sym, _∙_, ap, ap₂}
@@ -10,11 +11,6 @@ use Rattle.certificate.specs.Sizes.{offset-zero}
 use Rattle.certificate.specs.ReadRecords.{read-of, good-read, each-next, records-bad, records-after, records-fine}
 use Rattle.certificate.proofs.reading.read_records.Statement.{statement}
 use Rattle.certificate.proofs.reading.read_records.Tie as tie
-use Rattle.certificate.proofs.reading.read_records.Reads as reads
-use Rattle.certificate.proofs.reading.read_records.Lts as lts
-use Rattle.certificate.proofs.reading.byte.Reads as byte-reads
-use Rattle.certificate.proofs.reading.read_record.Reads as read-record-reads
-use Rattle.certificate.proofs.reading.refused.Reads as refused-reads
 
 abbrev Inv-loop : tie.InvT-loop
 Inv-loop s count p n c₀ k₀ c k = (k ≤ count) × ((c .at ≡ offset (at s 5) k) × (each k (record-asked (at s 4) (at s 5) s) ≡ fine))
@@ -75,13 +71,13 @@ returns-2 : tie.Need-returns-2 Inv-loop μ-loop
 returns-2 c =
     let l = c .before .before .before in
     let a = l .before .before .before .before .args in
-    c .refused .ensures ∙ records-after (a .count) (a .s .now) {k = l .loop .k} (omega arith) (l .loop .inv .1 .0) (l .loop .inv .1 .1) (c .before .if1 .taken)
+    c .refused .ensures ∙ records-after (a .count) (a .s .now) {k = l .loop .k} (omega arith) (l .loop .inv .1 .0) (l .loop .inv .1 .1) (omega arith)
 
 returns-3 : tie.Need-returns-3 Inv-loop μ-loop
 returns-3 c =
     let l = c .before .before in
     let a = l .before .before .before .before .args in
-    records-fine (a .count) (a .s .now) {k = l .loop .k} (omega arith) (l .loop .inv .1 .0) (l .loop .inv .1 .1) (c .if1 .left)
+    records-fine (a .count) (a .s .now) {k = l .loop .k} (omega arith) (l .loop .inv .1 .0) (l .loop .inv .1 .1) (omega arith)
 
 pub read-records-spec : {M : Type 1} → statement M
 read-records-spec =

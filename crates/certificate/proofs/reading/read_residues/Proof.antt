@@ -1,3 +1,4 @@
+-- The loop: the first i bytes are residues.
 use borrow.Author.Needs.{needs}
 use native.Mathlib.Omega.{arith}
 use mathlib.Core.Path.{_≡_, sym, _∙_, ap}
@@ -6,9 +7,6 @@ use Rattle.forms.specs.Answers.{Asked, fine}
 use Rattle.certificate.specs.ReadRecords.{read-of, residues-asked, no-residues, next-residue, no-residue}
 use Rattle.certificate.proofs.reading.read_residues.Statement.{statement}
 use Rattle.certificate.proofs.reading.read_residues.Tie as tie
-use Rattle.certificate.proofs.reading.read_residues.Reads as reads
-use Rattle.certificate.proofs.reading.read_residues.Lts as lts
-use Rattle.certificate.proofs.reading.refused.Reads as refused-reads
 
 abbrev Inv-loop : tie.InvT-loop
 Inv-loop s size p start i₀ i = (i ≤ size) × (residues-asked p start i s ≡ fine)

@@ -1,10 +1,9 @@
+-- The code compares with its own table of marks.
 use borrow.Author.Needs.{needs}
 use Rattle.forms.specs.Certificate.{mark, joined}
 use Rattle.certificate.specs.Sizes.{marks, marked-by-table}
 use Rattle.certificate.proofs.records.is_marked.Statement.{statement}
 use Rattle.certificate.proofs.records.is_marked.Tie as tie
-use Rattle.certificate.proofs.records.is_marked.Reads as reads
-use Rattle.certificate.proofs.records.is_marked.Lts as lts
 
 mul-result : tie.Need-mul-result
 mul-result c = search needs

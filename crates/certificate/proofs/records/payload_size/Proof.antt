@@ -1,10 +1,9 @@
+-- The code looks the size up in a table like that of the definition.
 use borrow.Author.Needs.{needs}
 use native.Mathlib.Omega.{arith}
 use Rattle.certificate.specs.Sizes.{square-small, cube-small, size-by-table}
 use Rattle.certificate.proofs.records.payload_size.Statement.{statement}
 use Rattle.certificate.proofs.records.payload_size.Tie as tie
-use Rattle.certificate.proofs.records.payload_size.Reads as reads
-use Rattle.certificate.proofs.records.payload_size.Lts as lts
 
 mul-square : tie.Need-mul-square
 mul-square c = omega (arith, square-small (c .args .n) (c .fits .n .fits))

@@ -1,3 +1,4 @@
+-- The loop: start is where record i starts.
 use borrow.Author.Needs.{needs}
 use native.Mathlib.Omega.{arith}
 use mathlib.Core.Path.{_≡_, sym, _∙_, ap, ap₂}
@@ -6,9 +7,6 @@ use Rattle.forms.specs.Certificate.{offset}
 use Rattle.certificate.specs.Sizes.{offset-zero, offset-next, offset-small, size-small}
 use Rattle.certificate.proofs.records.record_start.Statement.{statement}
 use Rattle.certificate.proofs.records.record_start.Tie as tie
-use Rattle.certificate.proofs.records.record_start.Reads as reads
-use Rattle.certificate.proofs.records.record_start.Lts as lts
-use Rattle.certificate.proofs.records.payload_size.Reads as payload-size-reads
 
 abbrev Inv-loop : tie.InvT-loop
 Inv-loop n k start₀ i₀ start i = (i ≤ k) × (start ≡ offset n i)

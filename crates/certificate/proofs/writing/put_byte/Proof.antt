@@ -1,10 +1,9 @@
+-- One store is a put of one byte.
 use borrow.Author.Needs.{needs}
 use mathlib.Core.Path.{refl}
 use Rattle.certificate.specs.Put.{set-is-put}
 use Rattle.certificate.proofs.writing.put_byte.Statement.{statement}
 use Rattle.certificate.proofs.writing.put_byte.Tie as tie
-use Rattle.certificate.proofs.writing.put_byte.Reads as reads
-use Rattle.certificate.proofs.writing.put_byte.Lts as lts
 
 slice-write-out : tie.Need-slice-write-out
 slice-write-out c = search needs

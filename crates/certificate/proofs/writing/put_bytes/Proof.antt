@@ -1,3 +1,4 @@
+-- The loop: the first i bytes are put.
 use borrow.Author.Needs.{needs}
 use native.Mathlib.Omega.{arith}
 use mathlib.Core.Path.{_≡_, refl, _∙_}
@@ -9,8 +10,6 @@ use lib.Seq.{paste, paste-zero, paste-suc}
 use Rattle.certificate.specs.Put.{paste-is-put}
 use Rattle.certificate.proofs.writing.put_bytes.Statement.{statement}
 use Rattle.certificate.proofs.writing.put_bytes.Tie as tie
-use Rattle.certificate.proofs.writing.put_bytes.Reads as reads
-use Rattle.certificate.proofs.writing.put_bytes.Lts as lts
 
 abbrev Inv-loop : tie.InvT-loop
 Inv-loop out₀ at bytes count i₀ out i = (i ≤ count) × ((out ≡ paste out₀ at bytes i) × (length out ≡ length out₀))

@@ -1,3 +1,4 @@
+-- Four puts, one after the other.
 use borrow.Author.Needs.{needs}
 use native.Mathlib.Omega.{arith}
 use Rattle.forms.specs.Certificate.{mark, joined}
@@ -6,9 +7,6 @@ use Rattle.certificate.specs.Put.{puts-then, puts-bytes}
 use Rattle.certificate.specs.Written.{head-by-table}
 use Rattle.certificate.proofs.writing.put_head.Statement.{statement}
 use Rattle.certificate.proofs.writing.put_head.Tie as tie
-use Rattle.certificate.proofs.writing.put_head.Reads as reads
-use Rattle.certificate.proofs.writing.put_head.Lts as lts
-use Rattle.certificate.proofs.writing.put_byte.Reads as put-byte-reads
 
 mul-put-byte : tie.Need-mul-put-byte
 mul-put-byte c = search needs

@@ -1,3 +1,4 @@
+-- The head, and the payload where it ended.
 use borrow.Author.Needs.{needs}
 use native.Mathlib.Omega.{arith}
 use mathlib.Core.Path.{refl}
@@ -6,10 +7,6 @@ use Rattle.certificate.specs.Written.{head-length, head-then-payload}
 use lib.ListN.{length}
 use Rattle.certificate.proofs.writing.put_record.Statement.{statement}
 use Rattle.certificate.proofs.writing.put_record.Tie as tie
-use Rattle.certificate.proofs.writing.put_record.Reads as reads
-use Rattle.certificate.proofs.writing.put_record.Lts as lts
-use Rattle.certificate.proofs.writing.put_bytes.Reads as put-bytes-reads
-use Rattle.certificate.proofs.writing.put_head.Reads as put-head-reads
 
 put-head-requires : tie.Need-put-head-requires
 put-head-requires c κs = search needs

@@ -1,20 +1,19 @@
 use borrow.Author.Needs.{needs}
-use native.Mathlib.Omega.{arith}
-use Prim.Native.Nat.{ℕ, suc, _≤_, _<_, _-_, _+_, _*_, _%_}
-use mathlib.Core.Path.{_≡_, refl, sym, _∙_, ap}
+use Prim.Native.Nat.{_≤_, _-_}
+use mathlib.Core.Path.{_≡_}
 use mathlib.Core.List.{[]}
-use lib.ListN.{getD, set, length}
+use lib.ListN.{getD}
 use Rattle.matrices.specs.Filling.{filled, fill-start, fill-turn, fill-end}
-use Rattle.matrices.specs.Matrices.{cell, zero-row, zero-rows}
+use Rattle.matrices.specs.Matrices.{zero-row}
 use Rattle.elimination.specs.Steps.{entry-of}
 use Rattle.elimination.proofs.blocks.apply.Statement.{statement}
 use Rattle.elimination.proofs.blocks.apply.Tie as tie
 
 abbrev Inv-loop : tie.InvT-loop
-Inv-loop g n p b r₀ i₀ r i = (i ≤ n) × (r ≡ filled i (λ i. entry-of p n (getD b i []) g) zero-row)
+Inv-loop g n p factor b r₀ i₀ r i = (i ≤ n) × (r ≡ filled i (λ i. entry-of p n (getD b i []) g) zero-row)
 
 abbrev μ-loop : tie.MeasureT-loop
-μ-loop g n p b r₀ i₀ r i = n - i
+μ-loop g n p factor b r₀ i₀ r i = n - i
 
 loop-holds : tie.Need-loop-holds Inv-loop μ-loop
 loop-holds c = (search needs, fill-start _ _)

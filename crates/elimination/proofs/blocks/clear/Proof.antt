@@ -1,17 +1,10 @@
 use borrow.Author.Needs.{needs}
 use native.Mathlib.Omega.{arith}
-use Prim.Native.Nat.{ℕ, suc, _≤_, _<_, _-_, _+_, _*_, _%_}
-use mathlib.Core.Path.{_≡_, refl, sym, _∙_, ap}
-use mathlib.Core.List.{[]}
-use lib.ListN.{getD, set, length}
+use Prim.Native.Nat.{_<_, _-_}
+use mathlib.Core.Path.{_≡_}
 use Rattle.algebra.specs.Modular.{modulo}
-use Rattle.elimination.specs.State.{frame, frame-within, Fields, Given, given-whole, given-next, prime-positive, field-row}
+use Rattle.elimination.specs.State.{frame, Fields, given-next}
 use Rattle.elimination.specs.Settle.{Cleared, clear-start, cleared-headed}
-use Rattle.elimination.specs.Probe.{Probing, probe-start}
-use Rattle.elimination.specs.Frame.{Change, change-none}
-use Rattle.elimination.specs.Searches.{column-of}
-use Rattle.elimination.specs.Powers.{Powered, powered-start, powered-turn, powered-kills}
-use mathlib.Core.Logic.{_≢_, inl, inr}
 use Rattle.elimination.specs.Blocking.{clear-next}
 use Rattle.elimination.proofs.blocks.clear.Statement.{statement}
 use Rattle.elimination.proofs.blocks.clear.Tie as tie

@@ -1,18 +1,10 @@
 use borrow.Author.Needs.{needs}
 use native.Mathlib.Omega.{arith}
-use Prim.Native.Nat.{ℕ, suc, _≤_, _<_, _-_, _+_, _*_, _%_}
-use mathlib.Core.Path.{_≡_, refl, sym, _∙_, ap}
-use mathlib.Core.List.{[]}
-use lib.ListN.{getD, set, length}
+use Prim.Native.Nat.{_≤_, _-_}
 use Rattle.algebra.specs.Modular.{modulo}
-use Rattle.elimination.specs.State.{frame, frame-within, Fields, Given, given-whole, given-next, prime-positive, field-row}
-use Rattle.elimination.specs.Settle.{Cleared, clear-start, cleared-headed}
+use Rattle.elimination.specs.State.{frame, Fields, given-next, prime-positive}
 use Rattle.elimination.specs.Probe.{Probing, probe-start}
-use Rattle.elimination.specs.Frame.{Change, change-none}
-use Rattle.elimination.specs.Searches.{column-of}
-use Rattle.elimination.specs.Powers.{Powered, powered-start, powered-turn, powered-kills}
-use mathlib.Core.Logic.{_≢_, inl, inr}
-use Rattle.elimination.specs.Blocking.{probe-grows, probe-goes-on, probe-ends}
+use Rattle.elimination.specs.Blocking.{probe-skips, probe-grows, probe-goes-on, probe-ends}
 use Rattle.elimination.proofs.blocks.probe.Statement.{statement}
 use Rattle.elimination.proofs.blocks.probe.Tie as tie
 
@@ -25,29 +17,44 @@ abbrev μ-loop : tie.MeasureT-loop
 loop-holds : tie.Need-loop-holds Inv-loop μ-loop
 loop-holds c = (search needs, c .pre .1 .fits, c .pre .0 .fields, probe-start _ _ _ _ _ (c .pre .1) (c .pre .2))
 
-probe-at-requires : tie.Need-probe-at-requires Inv-loop μ-loop
-probe-at-requires c κs = (given-next (c .before .before .pre .0) (c .before .loop .inv .2), c .before .before .pre .1 .some, c .before .loop .inv .0, search needs, c .before .loop .inv .3 .headed .window)
+array-copy-out-killed : tie.Need-array-copy-out-killed Inv-loop μ-loop
+array-copy-out-killed c = search needs
 
-array-copy-out-reach : tie.Need-array-copy-out-reach Inv-loop μ-loop
-array-copy-out-reach c = search needs
-
-reach-requires : tie.Need-reach-requires Inv-loop μ-loop
-reach-requires c κs = (omega arith, c .before .before .before .before .pre .0 .fits, c .before .before .before .before .pre .0 .order)
-
-returns : tie.Need-returns Inv-loop μ-loop
-returns c = (c .before .before .before .probe-at .ensures .0, probe-grows _ _ _ _ _ (c .before .before .before .before .before .before .args .t1) (c .before .before .before .before .before .loop .s) (c .before .before .before .probe-at .result) (given-next (c .before .before .before .before .before .before .pre .0) (c .before .before .before .probe-at .ensures .0)) (c .before .before .before .before .before .loop .inv .0) (search needs) (c .before .before .before .before .before .loop .inv .3) (c .before .before .before .probe-at .ensures .1) _ (c .before .reach .ensures) (c .if1 .taken))
+killed-requires : tie.Need-killed-requires Inv-loop μ-loop
+killed-requires c κs = (c .before .before .before .pre .0 .order, prime-positive _ (c .before .before .before .pre .0 .prime-p), omega (arith, c .before .before .before .pre .0 .fits), c .before .before .before .pre .1 .some, omega (arith, c .before .before .before .pre .0 .fits, c .before .before .before .pre .1 .fits))
 
 add-j : tie.Need-add-j Inv-loop μ-loop
-add-j c = search needs
+add-j c = omega (arith, c .before .before .before .before .before .pre .0 .fits, c .before .before .before .before .before .pre .0 .order)
 
 loop-less : tie.Need-loop-less Inv-loop μ-loop
 loop-less c = search needs
 
 loop-again : tie.Need-loop-again Inv-loop μ-loop
-loop-again c = (omega arith, omega arith, c .before .before .before .probe-at .ensures .0, probe-goes-on _ _ _ _ _ (c .before .before .before .before .before .before .args .t1) (c .before .before .before .before .before .loop .s) (c .before .before .before .probe-at .result) (given-next (c .before .before .before .before .before .before .pre .0) (c .before .before .before .probe-at .ensures .0)) (c .before .before .before .before .before .loop .inv .0) (search needs) (c .before .before .before .before .before .loop .inv .3) (c .before .before .before .probe-at .ensures .1) _ (c .before .reach .ensures) (c .if1 .left))
+loop-again c = (omega arith, omega arith, c .before .before .before .before .loop .inv .2, probe-skips _ _ _ _ _ (c .before .before .before .before .before .args .t1) (c .before .before .before .before .loop .s) (search needs) (c .before .before .before .before .before .pre .0 .fits) (c .before .before .before .before .loop .inv .3) (c .before .killed .ensures .kills (c .if1 .taken)))
+
+join-requires : tie.Need-join-requires Inv-loop μ-loop
+join-requires c κs = (given-next (c .before .before .before .before .before .pre .0) (c .before .before .before .before .loop .inv .2), omega (arith, c .before .before .before .before .before .pre .1 .some), search needs, c .before .before .before .before .loop .inv .3 .headed .window)
+
+array-copy-out-reach : tie.Need-array-copy-out-reach Inv-loop μ-loop
+array-copy-out-reach c = search needs
+
+reach-requires : tie.Need-reach-requires Inv-loop μ-loop
+reach-requires c κs = (omega arith, c .before .before .before .before .before .before .before .pre .0 .fits, c .before .before .before .before .before .before .before .pre .0 .order)
+
+returns : tie.Need-returns Inv-loop μ-loop
+returns c = (c .before .before .before .join .ensures .0, probe-grows _ _ _ _ _ (c .before .before .before .before .before .before .before .before .before .args .t1) (c .before .before .before .before .before .before .before .before .loop .s) (c .before .before .before .join .result) (given-next (c .before .before .before .before .before .before .before .before .before .pre .0) (c .before .before .before .join .ensures .0)) (c .before .before .before .before .before .before .before .before .loop .inv .0) (search needs) (c .before .before .before .before .before .before .before .before .loop .inv .3) (c .before .before .before .join .ensures .1) _ (c .before .reach .ensures) (c .if2 .taken))
+
+add-j-2 : tie.Need-add-j-2 Inv-loop μ-loop
+add-j-2 c = omega (arith, c .before .before .before .before .before .before .before .before .before .pre .0 .fits, c .before .before .before .before .before .before .before .before .before .pre .0 .order)
+
+loop-less-2 : tie.Need-loop-less-2 Inv-loop μ-loop
+loop-less-2 c = search needs
+
+loop-again-2 : tie.Need-loop-again-2 Inv-loop μ-loop
+loop-again-2 c = (omega arith, omega arith, c .before .before .before .join .ensures .0, probe-goes-on _ _ _ _ _ (c .before .before .before .before .before .before .before .before .before .args .t1) (c .before .before .before .before .before .before .before .before .loop .s) (c .before .before .before .join .result) (given-next (c .before .before .before .before .before .before .before .before .before .pre .0) (c .before .before .before .join .ensures .0)) (c .before .before .before .before .before .before .before .before .loop .inv .0) (search needs) (c .before .before .before .before .before .before .before .before .loop .inv .3) (c .before .before .before .join .ensures .1) _ (c .before .reach .ensures) (c .if2 .left))
 
 returns-2 : tie.Need-returns-2 Inv-loop μ-loop
 returns-2 c = (c .before .loop .inv .2, probe-ends _ _ _ _ _ (c .before .before .args .t1) (c .before .loop .s) (c .before .before .pre .0 .fits) (search needs) (c .before .loop .inv .1) (c .before .loop .inv .3))
 
 pub probe-spec : {M : Type 1} → statement M
-probe-spec = tie.close (tie.spec Inv-loop μ-loop loop-holds probe-at-requires array-copy-out-reach reach-requires returns add-j loop-less loop-again returns-2)
+probe-spec = tie.close (tie.spec Inv-loop μ-loop loop-holds array-copy-out-killed killed-requires add-j loop-less loop-again join-requires array-copy-out-reach reach-requires returns add-j-2 loop-less-2 loop-again-2 returns-2)

@@ -1,17 +1,7 @@
 use borrow.Author.Needs.{needs}
 use native.Mathlib.Omega.{arith}
-use Prim.Native.Nat.{ℕ, suc, _≤_, _<_, _-_, _+_, _*_, _%_}
-use mathlib.Core.Path.{_≡_, refl, sym, _∙_, ap}
-use mathlib.Core.List.{[]}
-use lib.ListN.{getD, set, length}
-use Rattle.algebra.specs.Modular.{modulo}
-use Rattle.elimination.specs.State.{frame, frame-within, Fields, Given, given-whole, given-next, prime-positive, field-row}
-use Rattle.elimination.specs.Settle.{Cleared, clear-start, cleared-headed}
-use Rattle.elimination.specs.Probe.{Probing, probe-start}
-use Rattle.elimination.specs.Frame.{Change, change-none}
-use Rattle.elimination.specs.Searches.{column-of}
-use Rattle.elimination.specs.Powers.{Powered, powered-start, powered-turn, powered-kills}
-use mathlib.Core.Logic.{_≢_, inl, inr}
+use Prim.Native.Nat.{_-_}
+use Rattle.elimination.specs.State.{given-next}
 use Rattle.elimination.specs.Blocking.{round-grows, round-headed, round-flat, round-probes}
 use Rattle.elimination.proofs.blocks.round.Statement.{statement}
 use Rattle.elimination.proofs.blocks.round.Tie as tie
@@ -29,8 +19,11 @@ returns : tie.Need-returns
 returns c = (c .before .before .before .settle .ensures .0, round-grows _ _ _ _ (c .before .before .before .before .args .s) (c .before .before .before .settle .result) (given-next (c .before .before .before .before .pre .0) (c .before .before .before .settle .ensures .0)) (c .before .before .before .settle .ensures .1) _ (c .before .reach .ensures) (c .if1 .taken))
 
 probe-requires : tie.Need-probe-requires
-probe-requires c κs = (given-next (c .before .before .before .before .pre .0) (c .before .before .before .settle .ensures .0), round-headed _ _ _ _ (c .before .before .before .before .args .s) (c .before .before .before .settle .result) (given-next (c .before .before .before .before .pre .0) (c .before .before .before .settle .ensures .0)) (c .before .before .before .settle .ensures .1) _ (c .before .reach .ensures) (c .if1 .left),
-  round-flat _ _ _ _ (c .before .before .before .before .args .s) (c .before .before .before .settle .result) (given-next (c .before .before .before .before .pre .0) (c .before .before .before .settle .ensures .0)) (c .before .before .before .settle .ensures .1) _ (c .before .reach .ensures) (c .if1 .left))
+probe-requires c κs = (
+  given-next (c .before .before .before .before .pre .0) (c .before .before .before .settle .ensures .0),
+  round-headed _ _ _ _ (c .before .before .before .before .args .s) (c .before .before .before .settle .result) (given-next (c .before .before .before .before .pre .0) (c .before .before .before .settle .ensures .0)) (c .before .before .before .settle .ensures .1) _ (c .before .reach .ensures) (c .if1 .left),
+  round-flat _ _ _ _ (c .before .before .before .before .args .s) (c .before .before .before .settle .result) (given-next (c .before .before .before .before .pre .0) (c .before .before .before .settle .ensures .0)) (c .before .before .before .settle .ensures .1) _ (c .before .reach .ensures) (c .if1 .left),
+)
 
 returns-2 : tie.Need-returns-2
 returns-2 c = (c .probe .ensures .0, round-probes _ _ _ _ (c .before .before .before .before .before .args .s) (c .before .before .before .before .settle .result) (given-next (c .before .before .before .before .before .pre .0) (c .before .before .before .before .settle .ensures .0)) (c .before .before .before .before .settle .ensures .1) _ (c .before .before .reach .ensures) (c .probe .result) (c .probe .ensures .1))

@@ -1,9 +1,8 @@
 use native.Mathlib.Decide.{ℕ-discrete}
 use mathlib.Core.Bool.{true≢false}
-use Prim.Native.Nat.{ℕ, suc, _≤_, _<_, _-_, _+_, _*_, _%_}
-use mathlib.Core.Path.{_≡_, refl, sym, _∙_, ap}
+use Prim.Native.Nat.{ℕ, _≤_, _<_, _-_}
+use mathlib.Core.Path.{_≡_, sym}
 use lib.ListN.{getD}
-use mathlib.Core.List.{[]}
 use borrow.Author.Needs.{needs}
 use native.Mathlib.Omega.{arith}
 use Rattle.elimination.proofs.blocks.same_row.Statement.{statement}

@@ -1,17 +1,7 @@
 use borrow.Author.Needs.{needs}
 use native.Mathlib.Omega.{arith}
-use Prim.Native.Nat.{ℕ, suc, _≤_, _<_, _-_, _+_, _*_, _%_}
-use mathlib.Core.Path.{_≡_, refl, sym, _∙_, ap}
-use mathlib.Core.List.{[]}
-use lib.ListN.{getD, set, length}
-use Rattle.algebra.specs.Modular.{modulo}
-use Rattle.elimination.specs.State.{frame, frame-within, Fields, Given, given-whole, given-next, prime-positive, field-row}
-use Rattle.elimination.specs.Settle.{Cleared, clear-start, cleared-headed}
-use Rattle.elimination.specs.Probe.{Probing, probe-start}
-use Rattle.elimination.specs.Frame.{Change, change-none}
-use Rattle.elimination.specs.Searches.{column-of}
-use Rattle.elimination.specs.Powers.{Powered, powered-start, powered-turn, powered-kills}
-use mathlib.Core.Logic.{_≢_, inl, inr}
+use Prim.Native.Nat.{_-_}
+use Rattle.elimination.specs.State.{given-next}
 use Rattle.elimination.specs.Turns.{turned-fields}
 use Rattle.elimination.specs.Blocking.{settled-here, turned-ready, settled-further}
 use Rattle.elimination.proofs.blocks.settle.Statement.{statement}
@@ -39,12 +29,21 @@ rotate-requires : tie.Need-rotate-requires
 rotate-requires c κs = (c .before .before .before .before .pre .0 .order, omega arith, omega (arith, c .before .before .before .before .pre .0 .fits))
 
 chain-requires : tie.Need-chain-requires
-chain-requires c κs = rw (c .rotate .ensures) (given-next (c .before .before .before .before .before .pre .0) (turned-fields _ _ _ _ (omega arith) (omega (arith, c .before .before .before .before .before .pre .0 .fits)) (c .before .before .before .before .clear .result) (c .before .before .before .before .clear .ensures .0)), omega arith,
-  turned-ready _ _ _ _ (c .before .before .before .before .before .args .s) (c .before .before .before .before .clear .result) (given-next (c .before .before .before .before .before .pre .0) (c .before .before .before .before .clear .ensures .0)) (c .before .before .before .before .before .pre .1) (c .before .before .before .before .clear .ensures .1) _ (c .before .before .first-nonzero .ensures) (c .before .if1 .left))
+chain-requires c κs = rw (c .rotate .ensures) (
+  given-next (c .before .before .before .before .before .pre .0) (turned-fields _ _ _ _ (omega arith) (omega (arith, c .before .before .before .before .before .pre .0 .fits)) (c .before .before .before .before .clear .result) (c .before .before .before .before .clear .ensures .0)),
+  omega arith,
+  turned-ready _ _ _ _ (c .before .before .before .before .before .args .s) (c .before .before .before .before .clear .result) (given-next (c .before .before .before .before .before .pre .0) (c .before .before .before .before .clear .ensures .0)) (c .before .before .before .before .before .pre .1) (c .before .before .before .before .clear .ensures .1) _ (c .before .before .first-nonzero .ensures) (c .before .if1 .left),
+)
 
 returns-2 : tie.Need-returns-2
-returns-2 c = (c .chain .ensures .0, (_, settled-further _ _ _ _ (c .before .before .before .before .before .before .args .s) (c .before .before .before .before .before .clear .result) (given-next (c .before .before .before .before .before .before .pre .0) (c .before .before .before .before .before .clear .ensures .0)) (c .before .before .before .before .before .before .pre .1) (c .before .before .before .before .before .clear .ensures .1) _ (c .before .before .before .first-nonzero .ensures) (c .before .before .if1 .left) _ (c .chain .result)
-  (rw (c .before .rotate .ensures) at (c .chain .ensures .1 .1))))
+returns-2 c = (
+  c .chain .ensures .0,
+  (
+    _,
+    settled-further _ _ _ _ (c .before .before .before .before .before .before .args .s) (c .before .before .before .before .before .clear .result) (given-next (c .before .before .before .before .before .before .pre .0) (c .before .before .before .before .before .clear .ensures .0)) (c .before .before .before .before .before .before .pre .1) (c .before .before .before .before .before .clear .ensures .1) _ (c .before .before .before .first-nonzero .ensures) (c .before .before .if1 .left) _ (c .chain .result)
+        (rw (c .before .rotate .ensures) at (c .chain .ensures .1 .1)),
+  ),
+)
 
 pub settle-spec : {M : Type 1} → statement M
 settle-spec = tie.close (tie.spec clear-requires index-1-first-nonzero index-2-first-nonzero first-nonzero-requires returns add-rotate rotate-requires chain-requires returns-2)

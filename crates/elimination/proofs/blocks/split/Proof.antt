@@ -1,17 +1,9 @@
 use borrow.Author.Needs.{needs}
 use native.Mathlib.Omega.{arith}
-use Prim.Native.Nat.{ℕ, suc, _≤_, _<_, _-_, _+_, _*_, _%_}
-use mathlib.Core.Path.{_≡_, refl, sym, _∙_, ap}
-use mathlib.Core.List.{[]}
-use lib.ListN.{getD, set, length}
+use Prim.Native.Nat.{_-_}
 use Rattle.algebra.specs.Modular.{modulo}
-use Rattle.elimination.specs.State.{frame, frame-within, Fields, Given, given-whole, given-next, prime-positive, field-row}
-use Rattle.elimination.specs.Settle.{Cleared, clear-start, cleared-headed}
-use Rattle.elimination.specs.Probe.{Probing, probe-start}
+use Rattle.elimination.specs.State.{frame, Fields, given-next}
 use Rattle.elimination.specs.Frame.{Change, change-none, change-then}
-use Rattle.elimination.specs.Searches.{column-of}
-use Rattle.elimination.specs.Powers.{Powered, powered-start, powered-turn, powered-kills}
-use mathlib.Core.Logic.{_≢_, inl, inr}
 use Rattle.elimination.specs.Settle.{Headed}
 use Rattle.elimination.specs.Blocking.{chained-reach, split-ends, split-change, split-headed}
 use Rattle.elimination.proofs.blocks.split.Statement.{statement}
@@ -51,8 +43,11 @@ loop-less : tie.Need-loop-less Inv-loop μ-loop
 loop-less c = omega (arith, c .if1 .left, c .before .reach2 .ensures .fits)
 
 loop-again : tie.Need-loop-again Inv-loop μ-loop
-loop-again c = (c .before .before .before .round .ensures .0, split-change _ _ _ _ (c .before .before .before .before .before .before .before .chain .result) (c .before .before .before .before .loop .c) (c .before .before .before .round .result) (given-next (c .before .before .before .before .before .before .before .before .pre .0) (c .before .before .before .round .ensures .0)) (c .before .before .before .before .loop .inv .1) (c .before .before .before .round .ensures .1) _ (c .before .reach2 .ensures),
-  split-headed _ _ _ _ (c .before .before .before .before .before .before .before .chain .result) (c .before .before .before .before .loop .c) (c .before .before .before .round .result) (given-next (c .before .before .before .before .before .before .before .before .pre .0) (c .before .before .before .round .ensures .0)) (c .before .before .before .before .loop .inv .1) (c .before .before .before .round .ensures .1) _ (c .before .reach2 .ensures))
+loop-again c = (
+  c .before .before .before .round .ensures .0,
+  split-change _ _ _ _ (c .before .before .before .before .before .before .before .chain .result) (c .before .before .before .before .loop .c) (c .before .before .before .round .result) (given-next (c .before .before .before .before .before .before .before .before .pre .0) (c .before .before .before .round .ensures .0)) (c .before .before .before .before .loop .inv .1) (c .before .before .before .round .ensures .1) _ (c .before .reach2 .ensures),
+  split-headed _ _ _ _ (c .before .before .before .before .before .before .before .chain .result) (c .before .before .before .before .loop .c) (c .before .before .before .round .result) (given-next (c .before .before .before .before .before .before .before .before .pre .0) (c .before .before .before .round .ensures .0)) (c .before .before .before .before .loop .inv .1) (c .before .before .before .round .ensures .1) _ (c .before .reach2 .ensures),
+)
 
 pub split-spec : {M : Type 1} → statement M
 split-spec = tie.close (tie.spec Inv-loop μ-loop chain-requires array-copy-out-reach reach-requires loop-holds round-requires array-copy-out-reach-2 reach-requires-2 returns loop-less loop-again)

@@ -1,9 +1,8 @@
-use Prim.Native.Nat.{ℕ, suc, _≤_, _<_, _-_, _+_, _*_, _%_}
-use mathlib.Core.Path.{_≡_, refl, sym, _∙_, ap}
+use Prim.Native.Nat.{_≤_, _-_, _%_}
+use mathlib.Core.Path.{_≡_}
 use lib.ListN.{getD}
-use mathlib.Core.List.{[]}
 use Rattle.matrices.specs.Filling.{filled, fill-start, fill-turn, fill-end}
-use Rattle.matrices.specs.Matrices.{cell, zero-row, zero-rows}
+use Rattle.matrices.specs.Matrices.{zero-row}
 use Rattle.algebra.specs.Choice.{below}
 use borrow.Author.Needs.{needs}
 use native.Mathlib.Omega.{arith}

@@ -1,10 +1,7 @@
-use Prim.Native.Nat.{ℕ, suc, _≤_, _<_, _-_, _+_, _*_, _%_}
-use mathlib.Core.Path.{_≡_, refl, sym, _∙_, ap}
-use lib.ListN.{getD}
-use mathlib.Core.List.{[]}
+use Prim.Native.Nat.{_-_}
+use mathlib.Core.Path.{sym}
 use Rattle.algebra.specs.Choice.{below-inside, below-outside}
 use borrow.Author.Needs.{needs}
-use native.Mathlib.Omega.{arith}
 use Rattle.elimination.proofs.blocks.tail_entry.Statement.{statement}
 use Rattle.elimination.proofs.blocks.tail_entry.Tie as tie
 

@@ -1,17 +1,9 @@
 use borrow.Author.Needs.{needs}
 use native.Mathlib.Omega.{arith}
-use Prim.Native.Nat.{ℕ, suc, _≤_, _<_, _-_, _+_, _*_, _%_}
-use mathlib.Core.Path.{_≡_, refl, sym, _∙_, ap}
+use Prim.Native.Nat.{_-_}
 use mathlib.Core.List.{[]}
-use lib.ListN.{getD, set, length}
-use Rattle.algebra.specs.Modular.{modulo}
-use Rattle.elimination.specs.State.{frame, frame-within, Fields, Given, given-whole, given-next, prime-positive, field-row}
-use Rattle.elimination.specs.Settle.{Cleared, clear-start, cleared-headed}
-use Rattle.elimination.specs.Probe.{Probing, probe-start}
-use Rattle.elimination.specs.Frame.{Change, change-none}
-use Rattle.elimination.specs.Searches.{column-of}
-use Rattle.elimination.specs.Powers.{Powered, powered-start, powered-turn, powered-kills}
-use mathlib.Core.Logic.{_≢_, inl, inr}
+use lib.ListN.{getD}
+use Rattle.elimination.specs.State.{prime-positive, field-row}
 use Rattle.elimination.specs.Blocking.{wiped-already, wiped-now}
 use Rattle.elimination.proofs.blocks.wipe.Statement.{statement}
 use Rattle.elimination.proofs.blocks.wipe.Tie as tie
@@ -89,9 +81,11 @@ plus-outer-requires-4 : tie.Need-plus-outer-requires-4
 plus-outer-requires-4 c κs = (c .before .before .before .before .before .before .before .before .before .before .before .before .before .before .before .before .before .before .before .pre .0 .order, prime-positive _ (c .before .before .before .before .before .before .before .before .before .before .before .before .before .before .before .before .before .before .before .pre .0 .prime-p), c .before .before .before .before .before .before .before .before .before .before .before .before .before .before .before .before .before .before .before .pre .0 .fields .I)
 
 returns-2 : tie.Need-returns-2
-returns-2 c = (record { B = c .before .before .before .before .before .before .before .before .plus-outer2 .ensures .field; T = c .before .before .before .before .plus-outer3 .ensures .field; I = c .plus-outer4 .ensures .field },
+returns-2 c = (
+  record { B = c .before .before .before .before .before .before .before .before .plus-outer2 .ensures .field; T = c .before .before .before .before .plus-outer3 .ensures .field; I = c .plus-outer4 .ensures .field },
   wiped-now _ _ _ _ _ (c .before .before .before .before .before .before .before .before .before .before .before .before .before .before .before .before .before .before .before .before .args .t1) (c .before .before .before .before .before .before .before .before .before .before .before .before .before .before .before .before .before .before .before .before .pre .0) (c .before .before .before .before .before .before .before .before .before .before .before .before .before .before .before .before .before .before .before .before .pre .1) (c .before .before .before .before .before .before .before .before .before .before .before .before .before .before .before .before .before .before .before .before .pre .2) _ _ _ _ _ _ _ _ _ _ (c .before .before .before .before .before .before .before .before .before .before .before .before .before .before .before .before .tail .ensures) (rw (c .before .before .before .before .before .before .before .before .before .before .before .before .before .before .before .unit-row .ensures) at (c .before .before .before .before .before .before .before .before .before .before .before .before .before .before .plus-row .ensures)) (c .before .before .before .before .before .before .before .before .before .before .before .column .ensures) (c .before .before .before .before .before .column2 .ensures)
-    (c .before .before .before .before .before .before .before .before .before .product-row .ensures) (c .before .product-row2 .ensures) (c .before .before .before .before .before .before .before .before .before .before .plus-outer .ensures) (c .before .before .before .before .before .before .before .before .plus-outer2 .ensures) (c .before .before .before .before .plus-outer3 .ensures) (c .plus-outer4 .ensures))
+      (c .before .before .before .before .before .before .before .before .before .product-row .ensures) (c .before .product-row2 .ensures) (c .before .before .before .before .before .before .before .before .before .before .plus-outer .ensures) (c .before .before .before .before .before .before .before .before .plus-outer2 .ensures) (c .before .before .before .before .plus-outer3 .ensures) (c .plus-outer4 .ensures),
+)
 
 pub wipe-spec : {M : Type 1} → statement M
 wipe-spec = tie.close (tie.spec add-x mul-x index-1-x index-2-x first-nonzero-requires returns tail-requires sub-plus-row unit-row-requires plus-row-requires array-copy-out-plus-outer array-copy-out-column column-requires plus-outer-requires product-row-requires plus-outer-requires-2 array-copy-out-plus-outer-2 array-copy-out-column-2 column-requires-2 plus-outer-requires-3 array-copy-out-plus-outer-3 array-copy-out-product-row product-row-requires-2 plus-outer-requires-4 returns-2)

@@ -1,11 +1,11 @@
 use borrow.Author.Needs.{needs}
 use native.Mathlib.Omega.{arith}
-use Prim.Native.Nat.{ℕ, suc, _≤_, _<_, _-_, _+_, _*_, _%_}
-use mathlib.Core.Path.{_≡_, refl, sym, _∙_, ap}
+use Prim.Native.Nat.{_≤_, _-_}
+use mathlib.Core.Path.{_≡_, refl}
 use mathlib.Core.List.{[]}
-use lib.ListN.{getD, set, length}
+use lib.ListN.{getD, length}
 use Rattle.algebra.specs.Modular.{modulo}
-use Rattle.elimination.specs.State.{frame, frame-within, Fields, Given, given-whole, given-next, prime-positive, field-row}
+use Rattle.elimination.specs.State.{frame, Fields}
 use Rattle.matrices.specs.Matrices.{matrix, matrix-within}
 use Rattle.forms.specs.Primes.{prime-means}
 use Rattle.elimination.specs.Form.{Stage, stage-start}
@@ -25,14 +25,17 @@ abbrev μ-loop : tie.MeasureT-loop
 -- the block that was split off, with its length read off the matrix
 found : (c : tie.After-reach Inv-loop μ-loop) → Split (modulo (c .before .before .before .before .before .before .args .p)) (c .before .before .before .before .before .before .args .n) (c .before .before .before .before .loop .k) (frame (c .before .before .before .before .before .before .args .p) (c .before .before .before .before .before .before .args .n) (c .before .before .before .before .loop .s)) (c .reach .result) (frame (c .before .before .before .before .before .before .args .p) (c .before .before .before .before .before .before .args .n) (c .before .before .split .result))
 found c = split-reach (c .before .before .before .before .before .before .args .p) (c .before .before .before .before .before .before .args .n) (c .before .before .before .before .loop .k) (c .before .before .before .before .loop .s) (c .before .before .split .result)
-  (record { order = c .before .before .before .before .before .before .pre .0; fits = c .before .before .before .before .loop .inv .0; prime-p = c .before .before .before .before .before .before .pre .1; fields = c .before .before .split .ensures .0 }) (c .before .before .split .ensures .1) (c .reach .result) (c .reach .ensures)
+    (record { order = c .before .before .before .before .before .before .pre .0; fits = c .before .before .before .before .loop .inv .0; prime-p = c .before .before .before .before .before .before .pre .1; fields = c .before .before .split .ensures .0 }) (c .before .before .split .ensures .1) (c .reach .result) (c .reach .ensures)
 
 identity-requires : tie.Need-identity-requires Inv-loop μ-loop
 identity-requires c κs = search needs
 
 loop-holds : tie.Need-loop-holds Inv-loop μ-loop
-loop-holds c = (search needs, record { B = c .before .pre .2; T = c .identity .ensures .field _ (prime-means _ (c .before .pre .1) .large); I = c .identity .ensures .field _ (prime-means _ (c .before .pre .1) .large) },
-  stage-start _ _ _ _ (matrix-within _ _ (c .before .args .a)) refl (c .identity .ensures .is _) (c .identity .ensures .is _))
+loop-holds c = (
+  search needs,
+  record { B = c .before .pre .2; T = c .identity .ensures .field _ (prime-means _ (c .before .pre .1) .large); I = c .identity .ensures .field _ (prime-means _ (c .before .pre .1) .large) },
+  stage-start _ _ _ _ (matrix-within _ _ (c .before .args .a)) refl (c .identity .ensures .is _) (c .identity .ensures .is _),
+)
 
 split-requires : tie.Need-split-requires Inv-loop μ-loop
 split-requires c κs = (record { order = c .before .before .before .pre .0; fits = c .before .loop .inv .0; prime-p = c .before .before .before .pre .1; fields = c .before .loop .inv .1 }, search needs, c .before .loop .inv .2 .window)
@@ -44,17 +47,20 @@ reach-requires : tie.Need-reach-requires Inv-loop μ-loop
 reach-requires c κs = (search needs, c .before .before .before .loop .inv .0, c .before .before .before .before .before .pre .0)
 
 rotate-requires : tie.Need-rotate-requires Inv-loop μ-loop
-rotate-requires c κs = (c .before .before .before .before .before .before .pre .0, found c .headed .fits, c .before .before .before .before .loop .inv .0)
+rotate-requires c κs = (c .before .before .before .before .before .before .pre .0, omega (arith, found c .headed .fits), omega (arith, found c .headed .fits, c .before .before .before .before .loop .inv .0))
 
 sub-k : tie.Need-sub-k Inv-loop μ-loop
-sub-k c = found (c .before) .headed .fits
+sub-k c = omega (arith, found (c .before) .headed .fits)
 
 loop-less : tie.Need-loop-less Inv-loop μ-loop
 loop-less c = omega (arith, found (c .before) .headed .fits, found (c .before) .headed .some)
 
 loop-again : tie.Need-loop-again Inv-loop μ-loop
-loop-again c = (omega (arith, c .before .before .before .before .before .loop .inv .0), rw (c .rotate .ensures) (turned-fields _ _ _ _ (found (c .before) .headed .fits) (c .before .before .before .before .before .loop .inv .0) (c .before .before .before .split .result) (c .before .before .before .split .ensures .0)),
-  rw (c .rotate .ensures) (stage-next _ _ _ _ _ (c .before .before .before .before .before .loop .s) (c .before .before .before .split .result) (c .before .before .before .before .before .loop .inv .0) (c .before .before .before .before .before .loop .inv .2) (found (c .before))))
+loop-again c = (
+  omega (arith, c .before .before .before .before .before .loop .inv .0),
+  rw (c .rotate .ensures) (turned-fields _ _ _ _ (found (c .before) .headed .fits) (c .before .before .before .before .before .loop .inv .0) (c .before .before .before .split .result) (c .before .before .before .split .ensures .0)),
+  rw (c .rotate .ensures) (stage-next _ _ _ _ _ (c .before .before .before .before .before .loop .s) (c .before .before .before .split .result) (c .before .before .before .before .before .loop .inv .0) (c .before .before .before .before .before .loop .inv .2) (found (c .before))),
+)
 
 returns : tie.Need-returns Inv-loop μ-loop
 returns c = let e : c .before .loop .k ≡ 0 = omega arith in reduced _ _ (c .before .before .before .args .a) (c .before .loop .s) (c .before .loop .inv .1) (rw e at (c .before .loop .inv .2))

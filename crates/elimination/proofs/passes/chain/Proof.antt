@@ -1,15 +1,10 @@
 use borrow.Author.Needs.{needs}
 use native.Mathlib.Omega.{arith}
-use Prim.Native.Nat.{ℕ, suc, _≤_, _<_, _-_, _+_, _*_, _%_}
-use mathlib.Core.Path.{_≡_, refl, sym, _∙_, ap}
-use mathlib.Core.List.{[]}
-use lib.ListN.{getD, set, length}
+use Prim.Native.Nat.{suc, _<_, _-_}
 use Rattle.algebra.specs.Modular.{modulo}
-use Rattle.elimination.specs.State.{frame, frame-within, Fields, Given, given-whole, given-next, prime-positive, field-row}
+use Rattle.elimination.specs.State.{frame, Fields, given-next}
 use Rattle.elimination.specs.Pass.{Passed, passed-start}
-use Rattle.elimination.specs.Searches.{column-of-row, HasPivot}
-use Rattle.elimination.specs.Passing.{units-nonzero, pull-none, pull-some, push-some, push-nonzero, chain-turn, chain-end, reach-pivot, reach-turn, reach-stops, reach-ends}
-use mathlib.Core.Logic.{_≢_}
+use Rattle.elimination.specs.Passing.{chain-turn, chain-end}
 use Rattle.elimination.proofs.passes.chain.Statement.{statement}
 use Rattle.elimination.proofs.passes.chain.Tie as tie
 

@@ -1,11 +1,7 @@
 use borrow.Author.Needs.{needs}
 use native.Mathlib.Omega.{arith}
-use Prim.Native.Nat.{ℕ, suc, _≤_, _<_, _-_, _+_, _*_, _%_}
-use mathlib.Core.Path.{_≡_, refl, sym, _∙_, ap}
-use mathlib.Core.List.{[]}
-use lib.ListN.{getD, set, length}
-use Rattle.algebra.specs.Modular.{modulo}
-use Rattle.elimination.specs.State.{frame, frame-within, Fields, Given, given-whole, given-next, prime-positive, field-row}
+use Prim.Native.Nat.{_-_, _+_}
+use Rattle.elimination.specs.State.{given-whole, prime-positive}
 use Rattle.elimination.specs.Passing.{units-field, units-nonzero, pull-none, pull-some}
 use Rattle.elimination.proofs.passes.pull.Statement.{statement}
 use Rattle.elimination.proofs.passes.pull.Tie as tie
@@ -32,9 +28,12 @@ plus-row-requires : tie.Need-plus-row-requires
 plus-row-requires c κs = (c .before .before .before .pre .0 .order, prime-positive _ (c .before .before .before .pre .0 .prime-p))
 
 replace-requires : tie.Need-replace-requires
-replace-requires c κs = (given-whole (c .before .before .before .before .pre .0), omega (arith, c .before .before .before .before .pre .0 .fits),
+replace-requires c κs = (
+  given-whole (c .before .before .before .before .pre .0),
+  omega (arith, c .before .before .before .before .pre .0 .fits),
   units-field _ _ (c .before .before .before .before .args .q) (c .before .before .before .before .args .p - 1) (c .before .before .before .before .args .j + 1) _ (c .before .before .before .before .pre .0 .prime-p) (rw (c .before .before .unit-row .ensures, c .before .unit-row2 .ensures) at (c .plus-row .ensures)),
-  units-nonzero _ _ (c .before .before .before .before .args .q) (c .before .before .before .before .args .p - 1) (c .before .before .before .before .args .j + 1) _ (c .before .before .before .before .pre .0 .prime-p) (rw (c .before .before .unit-row .ensures, c .before .unit-row2 .ensures) at (c .plus-row .ensures)) (c .before .before .before .before .pre .0 .order) (omega (arith, c .before .before .before .before .pre .0 .fits)) (omega (arith, c .before .before .before .before .pre .0 .fits, c .before .before .before .before .pre .3 .low)) (c .before .before .before .if1 .left))
+  units-nonzero _ _ (c .before .before .before .before .args .q) (c .before .before .before .before .args .p - 1) (c .before .before .before .before .args .j + 1) _ (c .before .before .before .before .pre .0 .prime-p) (rw (c .before .before .unit-row .ensures, c .before .unit-row2 .ensures) at (c .plus-row .ensures)) (c .before .before .before .before .pre .0 .order) (omega (arith, c .before .before .before .before .pre .0 .fits)) (omega (arith, c .before .before .before .before .pre .0 .fits, c .before .before .before .before .pre .3 .low)) (c .before .before .before .if1 .left),
+)
 
 returns-2 : tie.Need-returns-2
 returns-2 c = (c .replace .ensures .0, pull-some _ _ _ _ _ (c .before .before .before .before .before .args .s) (c .before .before .before .before .before .pre .0) (c .before .before .before .before .before .pre .2) (c .before .before .before .before .before .pre .1) (c .before .before .before .before .before .pre .3) _ (c .replace .result) (rw (c .before .before .before .unit-row .ensures, c .before .before .unit-row2 .ensures) at (c .before .plus-row .ensures)) (c .before .before .before .before .if1 .left) (c .replace .ensures .1))

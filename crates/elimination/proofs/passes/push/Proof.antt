@@ -1,15 +1,9 @@
 use borrow.Author.Needs.{needs}
 use native.Mathlib.Omega.{arith}
-use Prim.Native.Nat.{ℕ, suc, _≤_, _<_, _-_, _+_, _*_, _%_}
-use mathlib.Core.Path.{_≡_, refl, sym, _∙_, ap}
-use mathlib.Core.List.{[]}
-use lib.ListN.{getD, set, length}
-use Rattle.algebra.specs.Modular.{modulo}
-use Rattle.elimination.specs.State.{frame, frame-within, Fields, Given, given-whole, given-next, prime-positive, field-row}
-use Rattle.elimination.specs.Pass.{Passed, passed-start}
-use Rattle.elimination.specs.Searches.{column-of-row, HasPivot}
-use Rattle.elimination.specs.Passing.{units-nonzero, pull-none, pull-some, push-some, push-nonzero, chain-turn, chain-end, reach-pivot, reach-turn, reach-stops, reach-ends}
-use mathlib.Core.Logic.{_≢_}
+use Prim.Native.Nat.{_-_}
+use Rattle.elimination.specs.State.{given-whole}
+use Rattle.elimination.specs.Searches.{column-of-row}
+use Rattle.elimination.specs.Passing.{push-some, push-nonzero}
 use Rattle.elimination.proofs.passes.push.Statement.{statement}
 use Rattle.elimination.proofs.passes.push.Tie as tie
 
@@ -23,8 +17,12 @@ add-replace : tie.Need-add-replace
 add-replace c = omega (arith, c .before .before .pre .0 .fits, c .before .before .pre .0 .order)
 
 replace-requires : tie.Need-replace-requires
-replace-requires c κs = (given-whole (c .before .before .pre .0), omega (arith, c .before .before .pre .0 .fits), rw (c .column .ensures) (column-of-row _ _ _ _ (omega (arith, c .before .before .pre .0 .fits)) (c .before .before .pre .0 .fields .B)),
-  push-nonzero _ _ _ _ (c .before .before .args .t1) _ (c .before .before .pre .0 .fits) (c .before .before .pre .1) (c .column .ensures) (c .before .before .pre .3))
+replace-requires c κs = (
+  given-whole (c .before .before .pre .0),
+  omega (arith, c .before .before .pre .0 .fits),
+  rw (c .column .ensures) (column-of-row _ _ _ _ (omega (arith, c .before .before .pre .0 .fits)) (c .before .before .pre .0 .fields .B)),
+  push-nonzero _ _ _ _ (c .before .before .args .t1) _ (c .before .before .pre .0 .fits) (c .before .before .pre .1) (c .column .ensures) (c .before .before .pre .3),
+)
 
 returns : tie.Need-returns
 returns c = (c .replace .ensures .0, push-some _ _ _ _ (c .before .before .before .args .t1) _ (c .replace .result) (c .before .before .before .pre .0) (c .before .before .before .pre .2) (c .before .before .before .pre .1) (c .before .column .ensures) (c .replace .ensures .1))

@@ -1,11 +1,8 @@
-use Prim.Native.Nat.{ℕ, suc, _≤_, _<_, _-_, _+_, _*_, _%_}
-use mathlib.Core.Path.{_≡_, refl, sym, _∙_, ap}
-use lib.ListN.{getD}
-use mathlib.Core.List.{[]}
+use Prim.Native.Nat.{_≤_, _-_}
+use mathlib.Core.Path.{_≡_, refl}
 use Rattle.matrices.specs.Filling.{filled, fill-start, fill-turn, fill-end}
-use Rattle.matrices.specs.Matrices.{cell, zero-row, zero-rows}
+use Rattle.matrices.specs.Matrices.{cell, zero-row}
 use borrow.Author.Needs.{needs}
-use native.Mathlib.Omega.{arith}
 use Rattle.elimination.proofs.steps.column.Statement.{statement}
 use Rattle.elimination.proofs.steps.column.Tie as tie
 

@@ -1,20 +1,23 @@
-use Prim.Native.Nat.{ℕ, suc, _≤_, _<_, _-_, _+_, _*_, _%_}
-use mathlib.Core.Path.{_≡_, refl, sym, _∙_, ap}
-use lib.ListN.{getD}
-use mathlib.Core.List.{[]}
-use native.Mathlib.Nat.{mul-le-mul, mod-lt, le-antisymm}
-use Rattle.forms.specs.Numbers.{total}
-use Rattle.matrices.specs.Filling.{total-turn}
 use borrow.Author.Needs.{needs}
 use native.Mathlib.Omega.{arith}
+use Prim.Native.Nat.{_≤_, _-_, _*_}
+use mathlib.Core.Path.{_≡_, _∙_}
+use lib.ListN.{getD}
+use native.Mathlib.Nat.{mul-le-mul, le-antisymm}
+use Rattle.forms.specs.Numbers.{total}
+use Rattle.matrices.specs.Filling.{total-turn}
 use Rattle.elimination.proofs.steps.inner.Statement.{statement}
 use Rattle.elimination.proofs.steps.inner.Tie as tie
 
 abbrev Inv-loop : tie.InvT-loop
-Inv-loop n p x y sum₀ k₀ sum k = (k ≤ n) × (sum ≤ 65025 * k) × (sum ≡ total k (λ k. getD x k 0 * getD y k 0))
+Inv-loop n p factor x y sum₀ k₀ sum k = (k ≤ n) × (sum ≤ 65025 * k) × (sum ≡ total k (λ k. getD x k 0 * getD y k 0))
 
 abbrev μ-loop : tie.MeasureT-loop
-μ-loop n p x y sum₀ k₀ sum k = n - k
+μ-loop n p factor x y sum₀ k₀ sum k = n - k
+
+-- each product of two bytes
+term : (c : tie.After-wide2 Inv-loop μ-loop) → c .before .wide .result * c .wide2 .result ≤ 65025
+term c = mul-le-mul (c .before .wide .ensures .1) (c .wide2 .ensures .1)
 
 loop-holds : tie.Need-loop-holds Inv-loop μ-loop
 unfolding total
@@ -32,10 +35,6 @@ array-read-wide-2 c = search needs
 wide-requires-2 : tie.Need-wide-requires-2 Inv-loop μ-loop
 wide-requires-2 c κs = search needs
 
--- each product of two bytes
-term : (c : tie.After-wide2 Inv-loop μ-loop) → c .before .wide .result * c .wide2 .result ≤ 65025
-term c = mul-le-mul (c .before .wide .ensures .1) (c .wide2 .ensures .1)
-
 mul-sum : tie.Need-mul-sum Inv-loop μ-loop
 mul-sum c = omega (arith, term c)
 
@@ -51,14 +50,11 @@ loop-less c = search needs
 loop-again : tie.Need-loop-again Inv-loop μ-loop
 loop-again c = (search needs, omega (arith, term c), rw (total-turn, ← c .before .before .before .loop .inv .2, c .before .wide .ensures .0, c .wide2 .ensures .0))
 
-rem-result : tie.Need-rem-result Inv-loop μ-loop
-rem-result c = search needs
-
-cast-result : tie.Need-cast-result Inv-loop μ-loop
-cast-result c = omega (arith, mod-lt (c .before .loop .sum) (c .before .before .pre .1))
+remainder-requires : tie.Need-remainder-requires Inv-loop μ-loop
+remainder-requires c κs = (c .before .before .pre .1, omega (arith, c .before .loop .inv .1), c .before .before .pre .2)
 
 returns : tie.Need-returns Inv-loop μ-loop
-returns c = rw (c .before .loop .inv .2, le-antisymm (c .before .loop .inv .0) (c .loop-test .left))
+returns c = c .remainder .ensures ∙ rw (c .before .before .loop .inv .2, le-antisymm (c .before .before .loop .inv .0) (c .before .loop-test .left))
 
 pub inner-spec : {M : Type 1} → statement M
-inner-spec = tie.close (tie.spec Inv-loop μ-loop loop-holds array-read-wide wide-requires array-read-wide-2 wide-requires-2 mul-sum add-sum add-k loop-less loop-again rem-result cast-result returns)
+inner-spec = tie.close (tie.spec Inv-loop μ-loop loop-holds array-read-wide wide-requires array-read-wide-2 wide-requires-2 mul-sum add-sum add-k loop-less loop-again remainder-requires returns)

@@ -1,11 +1,10 @@
 use borrow.Author.Needs.{needs}
-use native.Mathlib.Omega.{arith}
-use Prim.Native.Nat.{ℕ, suc, _≤_, _<_, _-_, _+_, _*_, _%_}
-use mathlib.Core.Path.{_≡_, refl, sym, _∙_, ap}
+use Prim.Native.Nat.{_≤_, _-_}
+use mathlib.Core.Path.{_≡_}
 use mathlib.Core.List.{[]}
-use lib.ListN.{getD, set, length}
+use lib.ListN.{getD}
 use Rattle.matrices.specs.Filling.{filled, fill-start, fill-turn, fill-end}
-use Rattle.matrices.specs.Matrices.{cell, zero-row, zero-rows}
+use Rattle.matrices.specs.Matrices.{zero-rows}
 use Rattle.matrices.specs.Rows.{plus-row}
 use Rattle.elimination.specs.State.{field-row}
 use Rattle.elimination.specs.Steps.{plus-outer}
@@ -13,10 +12,13 @@ use Rattle.elimination.proofs.steps.plus_outer.Statement.{statement}
 use Rattle.elimination.proofs.steps.plus_outer.Tie as tie
 
 abbrev Inv-loop : tie.InvT-loop
-Inv-loop z n p m c r₀ i₀ r i = (i ≤ n) × (r ≡ filled i (λ i. plus-row p n (getD m i []) (getD c i 0) z) zero-rows)
+Inv-loop z n p m c f r₀ i₀ r i = (i ≤ n) × (r ≡ filled i (λ i. plus-row p n (getD m i []) (getD c i 0) z) zero-rows)
 
 abbrev μ-loop : tie.MeasureT-loop
-μ-loop z n p m c r₀ i₀ r i = n - i
+μ-loop z n p m c f r₀ i₀ r i = n - i
+
+factor-requires : tie.Need-factor-requires Inv-loop μ-loop
+factor-requires c κs = search needs
 
 loop-holds : tie.Need-loop-holds Inv-loop μ-loop
 loop-holds c = (search needs, fill-start _ _)
@@ -31,7 +33,7 @@ array-read-plus-multiple-row : tie.Need-array-read-plus-multiple-row Inv-loop μ
 array-read-plus-multiple-row c = search needs
 
 plus-multiple-row-requires : tie.Need-plus-multiple-row-requires Inv-loop μ-loop
-plus-multiple-row-requires c κs = (search needs, search needs, field-row _ _ (c .before .before .before .args .t1) _ (search needs) (c .before .before .before .pre .2))
+plus-multiple-row-requires c κs = (search needs, search needs, c .before .before .before .factor .ensures, field-row _ _ (c .before .before .before .before .args .t1) _ (search needs) (c .before .before .before .before .pre .2))
 
 mul-r : tie.Need-mul-r Inv-loop μ-loop
 mul-r c = search needs
@@ -49,7 +51,7 @@ loop-again : tie.Need-loop-again Inv-loop μ-loop
 loop-again c = (search needs, fill-turn _ _ _ (search needs) (c .before .before .before .loop .inv .1) (c .plus-multiple-row .ensures))
 
 returns : tie.Need-returns Inv-loop μ-loop
-returns c = plus-outer _ _ (c .before .before .args .t1) _ _ _ (search needs) (fill-end _ _ (c .before .loop .inv .1) (c .before .loop .inv .0) (c .loop-test .left))
+returns c = plus-outer _ _ (c .before .before .before .args .t1) _ _ _ (search needs) (fill-end _ _ (c .before .loop .inv .1) (c .before .loop .inv .0) (c .loop-test .left))
 
 pub plus-outer-spec : {M : Type 1} → statement M
-plus-outer-spec = tie.close (tie.spec Inv-loop μ-loop loop-holds mul-plus-multiple-row array-copy-out-plus-multiple-row array-read-plus-multiple-row plus-multiple-row-requires mul-r array-set-from-r add-i loop-less loop-again returns)
+plus-outer-spec = tie.close (tie.spec Inv-loop μ-loop factor-requires loop-holds mul-plus-multiple-row array-copy-out-plus-multiple-row array-read-plus-multiple-row plus-multiple-row-requires mul-r array-set-from-r add-i loop-less loop-again returns)

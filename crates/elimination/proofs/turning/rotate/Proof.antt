@@ -1,9 +1,5 @@
 use borrow.Author.Needs.{needs}
-use native.Mathlib.Omega.{arith}
-use Prim.Native.Nat.{ℕ, suc, _≤_, _<_, _-_, _+_, _*_, _%_}
-use mathlib.Core.Path.{_≡_, refl, sym, _∙_, ap}
-use mathlib.Core.List.{[]}
-use lib.ListN.{getD, set, length}
+use Prim.Native.Nat.{_-_}
 use Rattle.elimination.proofs.turning.rotate.Statement.{statement}
 use Rattle.elimination.proofs.turning.rotate.Tie as tie
 

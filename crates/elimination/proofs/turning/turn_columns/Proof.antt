@@ -1,12 +1,10 @@
 use borrow.Author.Needs.{needs}
-use native.Mathlib.Omega.{arith}
-use Prim.Native.Nat.{ℕ, suc, _≤_, _<_, _-_, _+_, _*_, _%_}
-use mathlib.Core.Path.{_≡_, refl, sym, _∙_, ap}
+use Prim.Native.Nat.{_≤_, _-_}
+use mathlib.Core.Path.{_≡_}
 use mathlib.Core.List.{[]}
-use lib.ListN.{getD, set, length}
+use lib.ListN.{getD}
 use Rattle.matrices.specs.Filling.{filled, fill-start, fill-turn, fill-end}
-use Rattle.matrices.specs.Matrices.{cell, zero-row, zero-rows}
-use Rattle.elimination.specs.Rotation.{rotation}
+use Rattle.matrices.specs.Matrices.{zero-rows}
 use Rattle.elimination.specs.Turns.{turned-row}
 use Rattle.elimination.proofs.turning.turn_columns.Statement.{statement}
 use Rattle.elimination.proofs.turning.turn_columns.Tie as tie

@@ -1,10 +1,7 @@
-use Prim.Native.Nat.{ℕ, suc, _≤_, _<_, _-_, _+_, _*_, _%_}
-use mathlib.Core.Path.{_≡_, refl, sym, _∙_, ap}
-use lib.ListN.{getD}
-use mathlib.Core.List.{[]}
-use Rattle.elimination.specs.Rotation.{rotation, rotation-low, rotation-middle, rotation-high}
+use Prim.Native.Nat.{_-_}
+use mathlib.Core.Path.{sym}
+use Rattle.elimination.specs.Rotation.{rotation-low, rotation-middle, rotation-high}
 use borrow.Author.Needs.{needs}
-use native.Mathlib.Omega.{arith}
 use Rattle.elimination.proofs.turning.turned.Statement.{statement}
 use Rattle.elimination.proofs.turning.turned.Tie as tie
 
