@@ -1,0 +1,20 @@
+use Rattle.verdict.specs.Products.{holding-unit, holding-other}
+use borrow.Author.Needs.{needs}
+use native.Mathlib.Omega.{arith}
+use borrow.Author.Needs.{needs}
+use Rattle.verdict.proofs.products.unit_entry.Statement.{statement}
+use Rattle.verdict.proofs.products.unit_entry.Tie as tie
+use Rattle.verdict.proofs.products.unit_entry.Reads as reads
+use Rattle.verdict.proofs.products.unit_entry.Lts as lts
+
+array-write-unit : tie.Need-array-write-unit
+array-write-unit c = search needs
+
+returns : tie.Need-returns
+returns c = holding-unit _ _ (c .if1 .taken)
+
+returns-2 : tie.Need-returns-2
+returns-2 c = holding-other _ _ (c .if1 .left)
+
+pub unit-entry-spec : {M : Type 1} → statement M
+unit-entry-spec = tie.close (tie.spec array-write-unit returns returns-2)
