@@ -1,0 +1,67 @@
+use borrow.Author.Needs.{needs}
+use native.Mathlib.Omega.{arith}
+use mathlib.Core.Path.{_≡_, refl, sym, _∙_, ap}
+use Prim.Native.Nat.{ℕ, _-_, _≤_}
+use native.Mathlib.Nat.{le-antisymm}
+use lib.Dec.{ltb}
+use lib.ListN.{length}
+use borrow.Author.Tests.{lt-ltb, le-ltb}
+use Rattle.forms.specs.Numbers.{at}
+use Rattle.forms.specs.Answers.{fine, ask, each}
+use Rattle.forms.specs.Tests.{each-fine, refuse-each}
+use Rattle.certificate.specs.ReadRecords.{each-next}
+use Rattle.analysis.proofs.questions.entries_asked.Statement.{statement}
+use Rattle.analysis.proofs.questions.entries_asked.Tie as tie
+use Rattle.analysis.proofs.questions.entries_asked.Reads as reads
+use Rattle.analysis.proofs.questions.entries_asked.Lts as lts
+
+abbrev Inv-loop : tie.InvT-loop
+Inv-loop matrix p i₀ i = (i ≤ length matrix) × (each i (λ i. ask (ltb (at matrix i) p) 4 i) ≡ fine)
+
+abbrev μ-loop : tie.MeasureT-loop
+μ-loop matrix p i₀ i = length matrix - i
+
+loop-holds : tie.Need-loop-holds Inv-loop μ-loop
+unfolding each
+loop-holds c = (search needs, refl)
+
+shared-slice-read-if1 : tie.Need-shared-slice-read-if1 Inv-loop μ-loop
+shared-slice-read-if1 c = search needs
+
+returns : tie.Need-returns Inv-loop μ-loop
+unfolding ask
+returns c =
+    let l = c .before .before .before .loop in
+    sym (refuse-each _ _ (l .i) 4 (l .i) (c .before .before .loop-test .taken) (each-fine (l .i) _ (l .inv .1)) (simp (le-ltb _ _ (c .if1 .taken))))
+
+add-i : tie.Need-add-i Inv-loop μ-loop
+add-i c = search needs
+
+loop-less : tie.Need-loop-less Inv-loop μ-loop
+loop-less c = search needs
+
+loop-again : tie.Need-loop-again Inv-loop μ-loop
+unfolding ask
+loop-again c =
+    let l = c .before .before .before .loop in
+    (search needs, each-next (l .i) _ (l .inv .1) (simp (lt-ltb _ _ (c .if1 .left))))
+
+returns-2 : tie.Need-returns-2 Inv-loop μ-loop
+returns-2 c =
+    let l = c .before .loop in
+    let a = c .before .before .args in
+    sym (ap (λ (z : ℕ). each z (λ i. ask (ltb (at (a .matrix .now) i) (a .p)) 4 i)) (le-antisymm (c .loop-test .left) (l .inv .0)) ∙ l .inv .1)
+
+pub entries-asked-spec : {M : Type 1} → statement M
+entries-asked-spec =
+    tie.close
+    (tie.spec
+    Inv-loop
+    μ-loop
+    loop-holds
+    shared-slice-read-if1
+    returns
+    add-i
+    loop-less
+    loop-again
+    returns-2)
