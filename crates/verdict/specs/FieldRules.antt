@@ -1,12 +1,11 @@
 -- Rules 8 and 9 in code: matrices taken from payloads, multiplied, and compared entry by entry.
-use mathlib.Core.Path.{_≡_, refl, sym, _∙_, ap, ap₂}
+use mathlib.Core.Path.{_≡_, sym, _∙_, ap, ap₂}
 use mathlib.Core.Bool.{Bool}
 use mathlib.Core.List.{List}
-use Prim.Native.Nat.{ℕ, zero, suc, _*_, _%_, _≤_, _<_}
+use Prim.Native.Nat.{ℕ, _*_, _%_, _≤_, _<_}
 use native.Mathlib.Nat.{mod-eq-of-lt}
-use native.Mathlib.Omega.{arith}
 use lib.Dec.{eqb}
-use lib.ListN.{length, getD}
+use lib.ListN.{length}
 use Rattle.algebra.specs.Matrix.{Matrix, product}
 use Rattle.algebra.specs.Modular.{residue, modulo, equal-residue}
 use Rattle.forms.specs.Numbers.{at, every, order-limit}

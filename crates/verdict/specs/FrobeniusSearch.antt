@@ -1,9 +1,9 @@
 -- Rule 7 in code: the entry of F that D asks is looked for block by block, and compared with that of FB.
-use mathlib.Core.Path.{_≡_, refl, sym, _∙_, ap, ap₂}
+use mathlib.Core.Path.{_≡_, sym, _∙_, ap, ap₂}
 use mathlib.Core.Logic.{_≢_}
-use mathlib.Core.Bool.{Bool, cond}
+use mathlib.Core.Bool.{Bool}
 use mathlib.Core.List.{List}
-use Prim.Native.Nat.{ℕ, zero, suc, _+_, _*_, _-_, _%_, _≤_, _<_}
+use Prim.Native.Nat.{ℕ, suc, _+_, _*_, _-_, _%_, _≤_, _<_}
 use native.Mathlib.Nat.{mod-eq-of-lt}
 use native.Mathlib.Omega.{arith}
 use lib.Dec.{eqb, eqb→eq}
@@ -15,7 +15,7 @@ use Rattle.forms.specs.Frobenius.{companion, blocks, frobenius}
 use Rattle.forms.specs.Tests.{cond-holds, cond-fails, equal-holds}
 use Rattle.forms.specs.Bounds.{frobenius-small}
 use Rattle.forms.specs.FrobeniusEntries.{blocks-first, blocks-behind, blocks-above, blocks-below}
-use Rattle.verdict.specs.Diagonal.{DiagonalPayload, diagonal-from}
+use Rattle.verdict.specs.Diagonal.{DiagonalPayload}
 
 -- the entry (i, j) of the block of f_b, of degree m
 pub record CompanionPlace (p n b m i : ℕ) (d : List ℕ) : Type 0 where

@@ -1,5 +1,4 @@
 -- Where entries of matrices stand among the bytes: inside their payload, and at small indices.
-use mathlib.Core.Path.{_≡_}
 use Prim.Native.Nat.{ℕ, suc, _+_, _*_, _≤_, suc-le-suc, _<_}
 use native.Mathlib.Nat.{suc-mul, mul-le-mul, le-refl}
 use native.Mathlib.Omega.{arith}

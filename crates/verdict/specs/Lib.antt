@@ -9,3 +9,6 @@ pub mod Chain
 pub mod FrobeniusSearch
 pub mod FieldRules
 pub mod NineRules
+pub mod ReadPayloads
+pub mod RulesInCode
+pub mod Verdicts

@@ -2,15 +2,14 @@
 use mathlib.Core.Path.{_≡_, refl, sym, _∙_, ap}
 use mathlib.Core.Logic.{_≢_}
 use mathlib.Core.Bool.{Bool, true, false}
-use mathlib.Core.List.{List}
-use Prim.Native.Nat.{ℕ, zero, suc, _+_, _*_, _≤_, _<_}
-use native.Mathlib.Numerals.{add-one}
+use Prim.Native.Nat.{ℕ, zero, suc, _+_, _<_}
 use native.Mathlib.Nat.{suc-add, zero-add}
 use native.Mathlib.Omega.{arith}
-use Rattle.forms.specs.Answers.{Asked, fine, refuse, _then_, ask, each}
+use lib.Dec.{T}
+use Rattle.forms.specs.Answers.{Asked, fine, refuse, ask, each}
 use Rattle.forms.specs.Certificate.{Certificate}
 use Rattle.forms.specs.Rules.{rule, rules}
-use Rattle.forms.specs.Tests.{fine-then, refuse-then}
+use Rattle.forms.specs.Tests.{ask-fine, fine-then, refuse-then, each-fine}
 use Rattle.verdict.specs.Searches.{failing}
 
 -- the first k rules
@@ -45,3 +44,6 @@ refused-stays c k (suc d) number place h = ap (rules-asked c) (suc-add d k) ∙ 
 
 pub searched-stays : (c : Certificate) (k d r : ℕ) → Searched c k r → r ≢ 0 → Searched c (d + k) r
 searched-stays c k d r h o = record { held = λ z. absurd (o z); failed = λ z. refused-stays c k d 11 r (h .failed o) }
+
+pub rule-held : (c : Certificate) (k : ℕ) → rules-asked c k ≡ fine → (i : ℕ) → i < k → T (rule c i)
+rule-held c k h i l = ask-fine (rule c i) 11 (suc i) (each-fine k _ h i l)

@@ -3,14 +3,14 @@ use mathlib.Core.Path.{_≡_, refl, sym, _∙_, ap}
 use mathlib.Core.Logic.{_↔_}
 use mathlib.Core.Bool.{Bool, true, false}
 use mathlib.Core.List.{List}
-use Prim.Native.Nat.{ℕ, suc, _*_, _≤_, _<_}
+use Prim.Native.Nat.{ℕ, suc, _*_, _≤_}
 use native.Mathlib.Omega.{arith}
 use lib.Dec.{T}
 use Rattle.algebra.specs.Ring.{Ring}
-use Rattle.algebra.specs.Matrix.{Matrix, product, product-within, product-associative}
+use Rattle.algebra.specs.Matrix.{Matrix, product}
 use Rattle.algebra.specs.Inverse.{Inverse, cancel-right}
 use Rattle.algebra.specs.Polynomial.{Polynomial, polynomials}
-use Rattle.algebra.specs.Modular.{Residue, modulo, Prime, positive}
+use Rattle.algebra.specs.Modular.{modulo, Prime, positive}
 use Rattle.forms.specs.Matrices.{Entries, PolynomialEntries, polynomial-matrix, diagonal, polynomial-unit, diagonal-matrix, characteristic, polynomial-product}
 use Rattle.forms.specs.Rules.{polynomial-equal}
 use Rattle.forms.specs.Words.{PolynomialEqual}

@@ -5,7 +5,7 @@ use mathlib.Core.Bool.{Bool, cond}
 use mathlib.Core.List.{List}
 use Prim.Native.Nat.{ℕ, zero, suc, _+_, _*_, _-_, _≤_, _<_}
 use native.Mathlib.Numerals.{add-one}
-use native.Mathlib.Nat.{add-zero, zero-add, add-assoc, add-comm, mul-comm, mul-zero, zero-mul, one-mul, mul-le-mul, le-refl, le-antisymm}
+use native.Mathlib.Nat.{add-zero, zero-add, add-assoc, add-comm, mul-comm, mul-zero, zero-mul, mul-le-mul, le-antisymm}
 use native.Mathlib.Decide.{ℕ-discrete, decLe}
 use native.Mathlib.Omega.{arith}
 use lib.Dec.{eqb, eqb→eq, eqb·suc-zero, eqb·suc-suc}
