@@ -14,7 +14,7 @@ use crate::records::is_marked;
 use crate::records::record_start;
 
 // The record whose mark is exactly m; RECORDS where there is none.
-fn record_marked(m: &[u8]) -> usize
+pub fn record_marked(m: &[u8]) -> usize
     ensures { λ r. ⌜ Marks (now (m .entry)) r ⌝ }
 {
     if m.len() != 2 {

@@ -20,10 +20,10 @@ use Rattle.forms.specs.Payloads.{payload-length}
 use Rattle.forms.specs.Layouts.{reading-of-layout, part-there}
 
 -- no mark stands for two records
-abbrev same-mark : ℕ → ℕ → Bool
+abbrev pub same-mark : ℕ → ℕ → Bool
 same-mark i k = cond (is-mark (mark i) k) (eqb i k) (not (eqb i k))
 
-marks-differ : (i k : ℕ) → i < 10 → k < 10 → T (same-mark i k)
+pub marks-differ : (i k : ℕ) → i < 10 → k < 10 → T (same-mark i k)
 unfolding mark every
 marks-differ i k l m = every-at 10 (same-mark i) (every-at 10 (λ i. every 10 (same-mark i)) tt i l) k m
 

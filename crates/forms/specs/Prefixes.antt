@@ -36,7 +36,7 @@ abbrev asked-with : ℕ → ℕ → ℕ → List ℕ → Asked
 asked-with p n k s = each k (record-asked p n s) then ask (leb (length s) (offset n k)) 10 (offset n k)
 
 -- a larger order has the longer certificate
-certificate-length-rises : (n m : ℕ) → n ≤ m → certificate-length n ≤ certificate-length m
+pub certificate-length-rises : (n m : ℕ) → n ≤ m → certificate-length n ≤ certificate-length m
 certificate-length-rises n m l =
     let square = mul-le-mul l l in let cube = mul-le-mul square l in
     let e = certificate-length-is n in let f = certificate-length-is m in omega arith
