@@ -23,5 +23,7 @@ vector_line(m, n, p) = {
   print();
 };
 primes_tried = [2, 3, 5, 7, 127, 241, 251];
-for(a = 1, #primes_tried, for(n = 1, 12, for(k = 1, #kinds, for(r = 1, if(k <= 2 || k >= 10, 2, 1), vector_line(kinds[k](n, primes_tried[a]), n, primes_tried[a])))));
+\\ how many of each kind, prime and order
+many = [5, 5, 3, 3, 3, 3, 3, 1, 1, 4, 4, 4, 4];
+for(a = 1, #primes_tried, for(n = 1, 12, for(k = 1, #kinds, for(r = 1, many[k], vector_line(kinds[k](n, primes_tried[a]), n, primes_tried[a])))));
 quit;
