@@ -10,7 +10,8 @@ ghost use Rattle.matrices.specs.Rows.{unit-row, IsIdentity};
 ghost use Rattle.matrices.specs.Zeros.{zero-entries, is-zero};
 use forms::ORDER;
 
-pub mod inversion;
+pub mod inversion; // the inverse, by elimination
+pub mod loading; // a matrix from its bytes
 
 pub type Row = [u8; ORDER];
 

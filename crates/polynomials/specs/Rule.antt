@@ -14,7 +14,8 @@ use Rattle.forms.specs.Remainders.{test-divides}
 use Rattle.polynomials.specs.declared.Polynomial.{Polynomial}
 use Rattle.polynomials.specs.Canonical.{polynomial, polynomial-of-at}
 
-same-answer : (a b : Bool) → (T a → T b) → (T b → T a) → a ≡ b
+-- two tests that hold alike are the same
+pub same-answer : (a b : Bool) → (T a → T b) → (T b → T a) → a ≡ b
 same-answer true true h k = refl
 same-answer true false h k = absurd (h tt)
 same-answer false true h k = absurd (k tt)

@@ -1,13 +1,3 @@
-pub mod Sums
-pub mod Indices
-pub mod Products
-pub mod Searches
-pub mod Smith
-pub mod SmithEntries
-pub mod Diagonal
-pub mod Chain
-pub mod FrobeniusSearch
-pub mod FieldRules
 pub mod NineRules
 pub mod ReadPayloads
 pub mod RulesInCode

@@ -1,4 +1,4 @@
--- The rules in their order: what the search through them has seen, and the facts that reading gives each of them.
+-- The rules in their order: what the search through them has seen.
 use mathlib.Core.Path.{_≡_, refl, sym, _∙_, ap}
 use mathlib.Core.Logic.{_≢_}
 use mathlib.Core.Bool.{Bool, true, false}
@@ -8,9 +8,9 @@ use native.Mathlib.Omega.{arith}
 use lib.Dec.{T}
 use Rattle.forms.specs.Answers.{Asked, fine, refuse, ask, each}
 use Rattle.forms.specs.Certificate.{Certificate}
-use Rattle.forms.specs.Rules.{rule, rules}
+use Rattle.forms.specs.Rules.{rule}
 use Rattle.forms.specs.Tests.{ask-fine, fine-then, refuse-then, each-fine}
-use Rattle.verdict.specs.Searches.{failing}
+use Rattle.rules.specs.Searches.{failing}
 
 -- the first k rules
 abbrev pub rules-asked : Certificate → ℕ → Asked

@@ -17,11 +17,11 @@ use Rattle.forms.specs.Primes.{prime-means, prime-limited}
 use Rattle.forms.specs.Records.{offset-suc}
 use Rattle.forms.specs.Layouts.{records-read, reading-laid-out}
 use Rattle.forms.specs.Payloads.{MA-residues, DF-residues, PL-residues, PI-residues, QR-residues, QI-residues, FB-residues, TB-residues, TI-residues}
-use Rattle.verdict.specs.Diagonal.{DiagonalPayload, MonicPayload}
-use Rattle.verdict.specs.Products.{Inverses}
-use Rattle.verdict.specs.SmithEntries.{SmithPayloads}
-use Rattle.verdict.specs.FrobeniusSearch.{FrobeniusPayloads}
-use Rattle.verdict.specs.FieldRules.{BasePayloads, SimilarPayloads}
+use Rattle.rules.specs.Diagonal.{DiagonalPayload, MonicPayload}
+use Rattle.rules.specs.Products.{Inverses}
+use Rattle.rules.specs.SmithEntries.{SmithPayloads}
+use Rattle.rules.specs.FrobeniusSearch.{FrobeniusPayloads}
+use Rattle.rules.specs.FieldRules.{BasePayloads, SimilarPayloads}
 
 module _ (s : List ℕ) (read : reading s ≡ fine) where
   abbrev p : ℕ

@@ -1,25 +1,24 @@
 // The check: the certificate is read, then the nine rules are asked in their order, and the first that fails is the answer.
 ghost use mathlib.Core.Path.{_≡_};
-ghost use Prim.Native.Nat.{ℕ, _≤_, _<_};
 ghost use Rattle.forms.specs.Answers.{fine};
 ghost use Rattle.forms.specs.Reading.{reading, certificate-of};
 ghost use Rattle.forms.specs.Operations.{Checks};
 ghost use Rattle.verdict.specs.NineRules.{Searched, rules-asked};
 ghost use Rattle.verdict.specs.Verdicts.{read-verdict};
-use crate::diagonal::chain_rule;
-use crate::diagonal::degrees_of;
-use crate::diagonal::degrees_rule;
-use crate::diagonal::monic_rule;
-use crate::field::base_rule;
-use crate::field::similar_rule;
-use crate::frobenius::frobenius_rule;
-use crate::products::inverse_rule;
-use crate::smith::smith_rule;
 use certificate::finding::payload;
 use certificate::reading::Read;
 use certificate::reading::read_certificate;
 use forms::Fault;
 use forms::Verdict;
+use rules::diagonal::chain_rule;
+use rules::diagonal::degrees_of;
+use rules::diagonal::degrees_rule;
+use rules::diagonal::monic_rule;
+use rules::field::base_rule;
+use rules::field::similar_rule;
+use rules::frobenius::frobenius_rule;
+use rules::products::inverse_rule;
+use rules::smith::smith_rule;
 
 // Rules 1 to 3, of a certificate that is read. Here and below the answer is the first rule that fails, or 0.
 fn diagonal_rules(s: &[u8]) -> u8

@@ -1,3 +1,4 @@
+-- Rules 1 to 3 in turn: each is asked on the payload of D where those before it hold.
 use mathlib.Core.Path.{_∙_}
 use lib.Dec.{lit<}
 use Rattle.forms.specs.Bounds.{degree-limited}
@@ -5,17 +6,9 @@ use Rattle.forms.specs.Reading.{certificate-of}
 use Rattle.verdict.specs.NineRules.{held-none, searched-next, searched-stays, rule-held}
 use Rattle.verdict.specs.ReadPayloads.{header-there, payload-there, some-order, diagonal-payload, monic-payload}
 use Rattle.verdict.specs.RulesInCode.{monic-is, chain-is, degrees-are}
-use borrow.Author.Needs.{needs}
 use native.Mathlib.Omega.{arith}
 use Rattle.verdict.proofs.check.diagonal_rules.Statement.{statement}
 use Rattle.verdict.proofs.check.diagonal_rules.Tie as tie
-use Rattle.verdict.proofs.check.diagonal_rules.Reads as reads
-use Rattle.verdict.proofs.check.diagonal_rules.Lts as lts
-use Rattle.certificate.proofs.finding.payload.Reads as payload-reads
-use Rattle.verdict.proofs.diagonal.chain_rule.Reads as chain-rule-reads
-use Rattle.verdict.proofs.diagonal.degrees_of.Reads as degrees-of-reads
-use Rattle.verdict.proofs.diagonal.degrees_rule.Reads as degrees-rule-reads
-use Rattle.verdict.proofs.diagonal.monic_rule.Reads as monic-rule-reads
 
 shared-slice-read-order : tie.Need-shared-slice-read-order
 shared-slice-read-order c = omega (arith, header-there (c .before .before .args .s .now) (c .before .before .pre))

@@ -1,15 +1,8 @@
-use Rattle.forms.specs.Reading.{certificate-of}
+-- The three searches in turn: what has failed stays the answer.
 use Rattle.verdict.specs.NineRules.{searched-stays}
-use borrow.Author.Needs.{needs}
-use native.Mathlib.Omega.{arith}
 use borrow.Author.Needs.{needs}
 use Rattle.verdict.proofs.check.failing_rule.Statement.{statement}
 use Rattle.verdict.proofs.check.failing_rule.Tie as tie
-use Rattle.verdict.proofs.check.failing_rule.Reads as reads
-use Rattle.verdict.proofs.check.failing_rule.Lts as lts
-use Rattle.verdict.proofs.check.diagonal_rules.Reads as diagonal-rules-reads
-use Rattle.verdict.proofs.check.frobenius_rules.Reads as frobenius-rules-reads
-use Rattle.verdict.proofs.check.smith_rules.Reads as smith-rules-reads
 
 diagonal-rules-requires : tie.Need-diagonal-rules-requires
 diagonal-rules-requires c κs = search needs

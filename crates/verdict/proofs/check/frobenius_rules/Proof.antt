@@ -1,20 +1,13 @@
+-- Rules 7 to 9 in turn: each is asked on its payloads where those before it hold.
 use mathlib.Core.Path.{_∙_}
 use lib.Dec.{lit<}
 use Rattle.forms.specs.Reading.{certificate-of}
 use Rattle.verdict.specs.NineRules.{searched-next, searched-stays}
 use Rattle.verdict.specs.ReadPayloads.{header-there, payload-there, diagonal-payload, frobenius-payloads, base-payloads, similar-payloads}
 use Rattle.verdict.specs.RulesInCode.{built-is, base-is, similar-is}
-use borrow.Author.Needs.{needs}
 use native.Mathlib.Omega.{arith}
 use Rattle.verdict.proofs.check.frobenius_rules.Statement.{statement}
 use Rattle.verdict.proofs.check.frobenius_rules.Tie as tie
-use Rattle.verdict.proofs.check.frobenius_rules.Reads as reads
-use Rattle.verdict.proofs.check.frobenius_rules.Lts as lts
-use Rattle.certificate.proofs.finding.payload.Reads as payload-reads
-use Rattle.verdict.proofs.diagonal.degrees_of.Reads as degrees-of-reads
-use Rattle.verdict.proofs.field.base_rule.Reads as base-rule-reads
-use Rattle.verdict.proofs.field.similar_rule.Reads as similar-rule-reads
-use Rattle.verdict.proofs.frobenius.frobenius_rule.Reads as frobenius-rule-reads
 
 shared-slice-read-order : tie.Need-shared-slice-read-order
 shared-slice-read-order c = omega (arith, header-there (c .before .before .args .s .now) (c .before .before .pre .0))

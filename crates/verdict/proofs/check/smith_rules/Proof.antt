@@ -1,18 +1,13 @@
+-- Rules 4 to 6 in turn: each is asked on its payloads where those before it hold.
 use mathlib.Core.Path.{_∙_}
 use lib.Dec.{lit<}
 use Rattle.forms.specs.Reading.{certificate-of}
 use Rattle.verdict.specs.NineRules.{searched-next, searched-stays, rule-held}
 use Rattle.verdict.specs.ReadPayloads.{header-there, payload-there, positive, left-payloads, right-payloads, smith-payloads}
 use Rattle.verdict.specs.RulesInCode.{left-inverse-is, right-inverse-is, smith-is}
-use borrow.Author.Needs.{needs}
 use native.Mathlib.Omega.{arith}
 use Rattle.verdict.proofs.check.smith_rules.Statement.{statement}
 use Rattle.verdict.proofs.check.smith_rules.Tie as tie
-use Rattle.verdict.proofs.check.smith_rules.Reads as reads
-use Rattle.verdict.proofs.check.smith_rules.Lts as lts
-use Rattle.certificate.proofs.finding.payload.Reads as payload-reads
-use Rattle.verdict.proofs.products.inverse_rule.Reads as inverse-rule-reads
-use Rattle.verdict.proofs.smith.smith_rule.Reads as smith-rule-reads
 
 shared-slice-read-order : tie.Need-shared-slice-read-order
 shared-slice-read-order c = omega (arith, header-there (c .before .before .args .s .now) (c .before .before .pre .0))

@@ -1,0 +1,10 @@
+pub mod Sums
+pub mod Indices
+pub mod Products
+pub mod Searches
+pub mod Smith
+pub mod SmithEntries
+pub mod Diagonal
+pub mod Chain
+pub mod FrobeniusSearch
+pub mod FieldRules
