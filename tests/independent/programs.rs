@@ -1,8 +1,10 @@
 //! Runs the programs blockform and blockcheck on document 01's cases, on every matrix of small orders, on the vectors of
 //! tests/vectors and on damaged input, and compares what they print with the document and with the independent program.
 //! Usage: programs check BLOCKCHECK, or programs form BLOCKFORM VECTORS; the variable RUNNER may name an emulator for x86-64.
+mod cases;
 mod independent;
 
+use cases::*;
 use independent::*;
 use std::io::Write;
 use std::process::{Command, Stdio};
@@ -49,14 +51,9 @@ fn request(p: u8, n: u8, a: &[u8]) -> Vec<u8> {
     s
 }
 
-fn numbers(text: &str) -> Vec<u32> {
-    text.split_whitespace().map(|x| x.parse().expect("a number")).collect()
-}
-
-/// The listing for given polynomials that are not 1.
-fn listing_of(p: u32, n: usize, polynomials: &[Poly]) -> String {
-    let mut d = vec![vec![1]; n - polynomials.len()];
-    d.extend_from_slice(polynomials);
+/// The listing for a matrix whose polynomials are known.
+fn listing_of(case: &Case) -> String {
+    let (p, n, d) = (case.p, case.n, case.diagonal());
     let row = |v: &[u32]| v.iter().map(|x| x.to_string()).collect::<Vec<_>>().join(" ");
     let mut out = format!("p {p} n {n}\n");
     for (i, g) in d.iter().enumerate() {
@@ -69,33 +66,11 @@ fn listing_of(p: u32, n: usize, polynomials: &[Poly]) -> String {
     out + &format!("lead {lead}\n")
 }
 
-/// The matrices of document 01 with the polynomials it prints.
-fn document_cases() -> Vec<(u32, usize, Vec<u8>, &'static str)> {
-    let example = |p: i32| [4, 1, -1, 0, 3, 0, -1, 1, 4].iter().map(|x: &i32| x.rem_euclid(p) as u8).collect();
-    vec![
-        (2, 1, vec![1], "1 1"),
-        (5, 2, vec![2, 1, 0, 3], "1 0 1"),
-        (5, 2, vec![3, 0, 1, 2], "1 0 1"),
-        (7, 3, example(7), "4 4 3 1"),
-        (2, 3, example(2), "1 1 ; 1 0 1"),
-        (5, 3, example(5), "0 4 4 1"),
-        (3, 3, vec![0; 9], "0 1 ; 0 1 ; 0 1"),
-        (2, 4, vec![0, 0, 0, 0, 1, 0, 0, 0, 0, 0, 0, 0, 0, 0, 1, 0], "0 0 1 ; 0 0 1"),
-        (2, 4, vec![0, 0, 0, 0, 1, 0, 0, 0, 0, 0, 0, 0, 0, 0, 0, 0], "0 1 ; 0 1 ; 0 0 1"),
-        (3, 3, vec![1, 0, 0, 0, 1, 0, 0, 0, 2], "2 1 ; 2 0 1"),
-        (3, 3, vec![1, 0, 0, 0, 2, 0, 0, 0, 2], "1 1 ; 2 0 1"),
-    ]
-}
-
-fn polynomials(text: &str) -> Vec<Poly> {
-    text.split(';').map(numbers).collect()
-}
-
-fn forms(run: &mut Runner, program: &str, vectors: &str) {
+fn forms(run: &mut Runner, program: &str, path: &str) {
     let b = request(5, 2, &[2, 1, 0, 3]);
     run.expect(program, &b, "p 5 n 2\nD 1: 1\nD 2: 1 0 1\nF 1: 0 4\nF 2: 1 0\nlead 0\n");
-    for (p, n, a, d) in document_cases() {
-        run.expect(program, &request(p as u8, n as u8, &a), &listing_of(p, n, &polynomials(d)));
+    for case in document_cases() {
+        run.expect(program, &request(case.p as u8, case.n as u8, &case.a), &listing_of(&case));
     }
     run.expect(program, &request(5, 0, &[]), "refused 1 0\n");
     run.expect(program, &request(9, 13, &[]), "refused 1 13\n");
@@ -120,47 +95,9 @@ fn forms(run: &mut Runner, program: &str, vectors: &str) {
             run.expect(program, &s, &listing(&s));
         }
     }
-    for line in std::fs::read_to_string(vectors).expect("the vectors").lines() {
-        let part: Vec<&str> = line.split(':').collect();
-        let head = numbers(part[0]);
-        let a: Vec<u8> = numbers(part[1]).iter().map(|x| *x as u8).collect();
-        run.expect(program, &request(head[0] as u8, head[1] as u8, &a), &listing_of(head[0], head[1] as usize, &polynomials(part[2])));
+    for case in vectors(path) {
+        run.expect(program, &request(case.p as u8, case.n as u8, &case.a), &listing_of(&case));
     }
-}
-
-/// Another basis of the same form: T g(F) for a polynomial g with g(F) invertible; a constant g always serves.
-fn other_basis(r: &mut Numbers, f: Field, t: &Matrix, form: &Matrix) -> Matrix {
-    let n = t.len();
-    for tried in 0..20 {
-        let (c, d) = (1 + r.below(f.p as u64 - 1) as u32, if tried < 19 { r.below(f.p as u64) as u32 } else { 0 });
-        let g: Matrix = (0..n).map(|i| (0..n).map(|j| (c * ((i == j) as u32) + d * form[i][j]) % f.p).collect()).collect();
-        let candidate = f.product(t, &g);
-        if f.invert(&candidate).is_some() {
-            return candidate;
-        }
-    }
-    t.clone()
-}
-
-/// A certificate damaged so that the given rule is the first to fail, if this matrix allows it.
-fn break_rule(c: &Certificate, rule: usize) -> Certificate {
-    let (mut d, n) = (c.clone(), c.n);
-    let other = |x: u8| ((x as u32 + 1) % c.p) as u8;
-    match rule {
-        1 => d.payloads[2][..n + 1].iter_mut().for_each(|x| *x = 0),
-        2 => (0..n + 1).for_each(|k| d.payloads[2][k] = (k == 1) as u8),
-        3 => (0..n).for_each(|i| (0..n + 1).for_each(|k| d.payloads[2][i * (n + 1) + k] = (k == 0) as u8)),
-        4 => d.payloads[4][0] = other(c.payloads[4][0]),
-        5 => d.payloads[6][0] = other(c.payloads[6][0]),
-        6 => d.payloads[1][0] = other(c.payloads[1][0]),
-        7 => d.payloads[7][0] = other(c.payloads[7][0]),
-        8 => d.payloads[9].iter_mut().for_each(|x| *x = 0),
-        _ => {
-            let e: Vec<u8> = (0..n * n).map(|k| (k / n == k % n) as u8).collect();
-            (d.payloads[8], d.payloads[9]) = (e.clone(), e);
-        }
-    }
-    d
 }
 
 fn checks(run: &mut Runner, program: &str) {

@@ -1,11 +1,2 @@
 pub mod Questions
-pub mod Heads
-pub mod Coefficients
 pub mod Loading
-pub mod Listing
-pub mod PutRows
-pub mod PutRecords
-pub mod Diagonals
-pub mod Blocks
-pub mod ClosedCoefficients
-pub mod Written

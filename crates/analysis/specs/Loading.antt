@@ -1,18 +1,10 @@
--- A matrix loaded from its bytes: its entries are those that the bytes list, and where these are residues it is a field matrix.
-use mathlib.Core.Path.{_≡_, _∙_, ap, subst, sym}
+-- The matrix that is reduced holds the entries that its bytes list.
 use mathlib.Core.List.{List}
-use Prim.Native.Nat.{ℕ, _+_, _*_, _<_}
-use Rattle.forms.specs.Numbers.{at}
-use Rattle.forms.specs.Words.{Residues}
-use Rattle.matrices.specs.Filling.{filled, filled-inside}
-use Rattle.matrices.specs.Matrices.{cell, FieldMatrix, zero-row, zero-rows, filled-cell, filled-row, filled-field}
-use Rattle.elimination.specs.State.{Array}
+use Prim.Native.Nat.{ℕ}
+use Rattle.forms.specs.Matrices as definitions
+use Rattle.matrices.specs.Loading.{loaded, loaded-entry}
+use Rattle.payloads.specs.ClosedCoefficients.{Holds}
 
-abbrev pub loaded : ℕ → List ℕ → Array
-loaded n A = filled n (λ i. filled n (λ j. at A (i * n + j)) zero-row) zero-rows
-
-pub loaded-entry : (n : ℕ) (A : List ℕ) (i j : ℕ) → i < n → j < n → cell (loaded n A) i j ≡ at A (i * n + j)
-loaded-entry n A i j l g = filled-cell n (λ i. filled n (λ j. at A (i * n + j)) zero-row) i j l ∙ filled-inside n (λ j. at A (i * n + j)) zero-row 0 j g
-
-pub loaded-field : (p n : ℕ) (A : List ℕ) → Residues p (n * n) A → FieldMatrix p n (loaded n A)
-loaded-field p n A h = filled-field p n _ (λ i l. filled-row p n _ (λ j g. h .small (i * n + j)))
+pub loaded-holds : (n : ℕ) (A : List ℕ) → Holds n (loaded n A) (definitions.matrix n A)
+unfolding definitions.matrix
+loaded-holds n A = loaded-entry n A

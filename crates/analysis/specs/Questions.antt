@@ -4,9 +4,9 @@ use mathlib.Core.List.{List, _++_}
 use Prim.Native.Nat.{ℕ, _*_, _≤_, _<_}
 use native.Mathlib.Nat.{mul-le-mul}
 use native.Mathlib.Omega.{arith}
-use lib.Dec.{T, eqb, ltb, leb, eqb→eq, leb→le, le→leb}
+use lib.Dec.{eqb, ltb, leb, eqb→eq, leb→le, le→leb}
 use lib.ListN.{length, drop}
-use Rattle.forms.specs.Numbers.{at, prime, order-limit, prime-limit}
+use Rattle.forms.specs.Numbers.{at, order-limit, prime-limit}
 use Rattle.forms.specs.Answers.{Asked, fine, refuse, _then_, ask, each, asked-number, asked-place}
 use Rattle.forms.specs.Certificate.{Certificate, layout, certificate-length}
 use Rattle.forms.specs.Reading.{order-and-prime}

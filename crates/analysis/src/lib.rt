@@ -7,20 +7,16 @@ ghost use Rattle.forms.specs.Certificate.{Certificate, layout, certificate-leng
 ghost use Rattle.forms.specs.Words.{LaidOut, Certified};
 ghost use Rattle.forms.specs.Operations.{Analyses};
 ghost use Rattle.forms.specs.LegalRequests.{Legal};
-use crate::heads::last_rows;
-use crate::heads::order;
-use crate::loading::field_matrix;
-use crate::payloads::put_records;
 use crate::questions::analysis_asked;
 use certificate::limits::Limits;
 use elimination::elimination::reduce;
 use forms::Analysed;
+use matrices::loading::field_matrix;
+use payloads::heads::last_rows;
+use payloads::heads::order;
+use payloads::payloads::put_records;
 
 pub mod questions; // what is refused
-pub mod loading; // the matrix, from its bytes
-pub mod heads; // the blocks of the Frobenius form, and the order of the rows of D
-pub mod closed; // D, P, Q and their inverses, coefficient by coefficient
-pub mod payloads; // the payloads, and the ten records
 
 // The certificate of a matrix that is not refused, and its length.
 fn write(p: u8, n: u8, matrix: &[u8], out: &mut [u8]) -> usize
@@ -31,7 +27,7 @@ fn write(p: u8, n: u8, matrix: &[u8], out: &mut [u8]) -> usize
     let s = reduce(field_matrix(matrix, rows), rows, p);
     let from = order(&s[0], rows);
     let last = last_rows(&s[0], rows);
-    put_records(out, p, n, matrix, &s, from, last)
+    put_records(out, p, n, matrix, &s, &from, &last)
 }
 
 // The public operation: refusals 1 to 5 in this order, and else the certificate.

@@ -1,45 +1,49 @@
 -- The growing block in code: what its steps say of the state.
-use mathlib.Core.Path.{_≡_, sym, _∙_, ap, subst}
+use mathlib.Core.Path.{_≡_, sym, _∙_, ap, ap₂, subst}
+use mathlib.Core.Logic.{_≢_}
 use mathlib.Core.List.{List, [], _∷_}
 use Prim.Native.Nat.{ℕ, zero, suc, _+_, _-_, _≤_, _<_}
 use native.Mathlib.Numerals.{add-one}
-use native.Mathlib.Decide.{decLt}
+use native.Mathlib.Decide.{decLt, ℕ-discrete}
 use native.Mathlib.Omega.{arith}
-use lib.ListN.{getD}
-use Rattle.algebra.specs.Ring.{one-times}
-use Rattle.algebra.specs.Sum.{delta}
-use Rattle.algebra.specs.Matrix.{Matrix}
+use lib.ListN.{getD, set, length-set, length-replicate}
+use lib.Seq.{getD-set-same, getD-set-other}
+use Rattle.forms.specs.Numbers.{order-limit}
+use Rattle.algebra.specs.Ring.{zero-plus, plus-zero}
+use Rattle.algebra.specs.Sum.{delta, delta-same, delta-other}
+use Rattle.algebra.specs.Matrix.{Matrix, combine}
 use Rattle.algebra.specs.Modular.{residue, modulo, residue-one}
-use Rattle.matrices.specs.Matrices.{cell, vector, matrix, matrix-inside, FieldRow}
+use Rattle.matrices.specs.Matrices.{cell, vector, matrix, vector-inside, vector-upto, matrix-inside, FieldRow, zero-row, zero-row-at}
 use Rattle.forms.specs.Primes.{prime-means}
-use Rattle.matrices.specs.Products.{product-row}
-use Rattle.matrices.specs.Rows.{plus-row, unit-row}
-use Rattle.elimination.specs.Frame.{Window, Change, change-then}
-use Rattle.elimination.specs.Replace.{Replaced}
+use Rattle.matrices.specs.Rows.{unit-row, unit-row-at}
+use Rattle.basis.specs.Frame.{Window, Change, change-then}
+use Rattle.basis.specs.Replace.{Replaced}
 use Rattle.elimination.specs.Shapes.{CompanionRows}
 use Rattle.elimination.specs.Wipe.{wipe-change, wipe-columns, wipe-rows, wipe-zero}
-use Rattle.elimination.specs.Rotation.{rotation, Reordered, rotated-change}
+use Rattle.basis.specs.Reordering.{Reordered}
+use Rattle.basis.specs.Rotation.{rotation, rotated-change}
 use Rattle.elimination.specs.Pass.{Ready, Chained}
 use Rattle.elimination.specs.Killing.{corner, Kills}
 use Rattle.elimination.specs.Settle.{Headed, Wiped, wiped-none, Cleared, clear-turn, cleared-headed, Settled, settled-same, settled-longer, chained-headed}
 use Rattle.elimination.specs.Probe.{Joined, joined-ready, joined-headed, Probing, Probed, probe-skip, probe-longer, probe-turn, probe-end, probed-of-settled, probed-then, Split, split-of-probed}
 use Rattle.elimination.specs.Form.{Stage, stage-turn}
-use Rattle.elimination.specs.State.{Array, State, frame, frame-within, Given, prime-positive, prime-distinct, zero-entry, entry-nonzero, field-row}
-use Rattle.elimination.specs.Steps.{PlusOuter, opposite-unit, spread}
-use Rattle.elimination.specs.Searches.{column-of, column-of-at, FirstNonzero, tail-of, tail-before, tail-low, tail-high, tail-upto, Reach, reach-is}
-use Rattle.elimination.specs.Turns.{turned-state, turned-reordered}
-use Rattle.elimination.specs.Passing.{units-vector}
+use Rattle.basis.specs.State.{Array, State, frame, frame-within, Given, prime-positive, prime-distinct, zero-entry, entry-nonzero, field-row}
+use Rattle.basis.specs.Steps.{PlusOuter, opposite-unit, spread}
+use Rattle.basis.specs.Searches.{column-of, column-of-at, FirstNonzero}
+use Rattle.elimination.specs.Tails.{tail-of, tail-before, tail-low, tail-high, tail-upto}
+use Rattle.elimination.specs.Reaching.{Reach, reach-is}
+use Rattle.basis.specs.Orders.{InOrder}
 
 module _ (p n k m a : ℕ) (s : State) (g : Given p n k s) (h : Headed (modulo p) k m (frame p n s)) (l : a + 1 < m) where
   -- row a + 1 has nothing from column m on
-  pub wiped-already : (q : ℕ) → FirstNonzero (getD (getD s 0 []) (a + 1) []) m k q → k ≤ q → Wiped (modulo p) n k m a (frame p n s) (frame p n s)
+  pub wiped-already : (q : ℕ) → FirstNonzero (cell (getD s 0 []) (a + 1)) m k q → k ≤ q → Wiped (modulo p) n k m a (frame p n s) (frame p n s)
   wiped-already q f e = wiped-none (modulo p) n k m a (frame p n s) (λ t b. elim (decLt t k) [
     | yes c ↦ zero-entry p n (getD s 0 []) (suc a) t (omega (arith, g .fits, h .fits)) (omega (arith, g .fits)) (ap (λ (i : ℕ). cell (getD s 0 []) i t) (sym (add-one a)) ∙ f .zeros t b (omega arith))
     | no c ↦ h .window .right (suc a) t (omega (arith, h .fits)) (omega arith)
   ])
 
-  module _ (v u c e y z : List ℕ) (w b t f : Array) (ev : v ≡ tail-of p m k (getD (getD s 0 []) (a + 1) [])) (eu : u ≡ opposite-unit p n a) (ec : c ≡ column-of n (getD s 0 []) a) (ee : e ≡ column-of n (getD s 1 []) a)
-      (ey : y ≡ product-row p n v w) (ez : z ≡ product-row p n v (getD s 2 [])) (xw : PlusOuter p n (getD s 0 []) c v w) (xb : PlusOuter p n w u y b) (xt : PlusOuter p n (getD s 1 []) e v t) (xf : PlusOuter p n (getD s 2 []) u z f) where
+  module _ (v u c e y z : List ℕ) (w b t f : Array) (ev : v ≡ tail-of p m k (getD (getD s 0 []) (a + 1) [])) (eu : u ≡ opposite-unit p a) (ec : c ≡ column-of n (getD s 0 []) a) (ee : e ≡ column-of n (getD s 1 []) a)
+      (ey : vector p n y ≡ combine (modulo p) n (vector p n v) (matrix p n w)) (ez : vector p n z ≡ combine (modulo p) n (vector p n v) (matrix p n (getD s 2 []))) (xw : PlusOuter p n (getD s 0 []) c v w) (xb : PlusOuter p n w u y b) (xt : PlusOuter p n (getD s 1 []) e v t) (xf : PlusOuter p n (getD s 2 []) u z f) where
     pub wiped-now : Wiped (modulo p) n k m a (frame p n s) (frame p n (b ∷ t ∷ f ∷ []))
     wiped-now =
         let positive : 0 < p = prime-positive p (g .prime-p) in
@@ -63,34 +67,65 @@ pub clear-next : (p n k m r : ℕ) (s t u : State) → 0 < r → Cleared (modulo
 clear-next p n k m r s t u l x y = let e : r ≡ suc (r - 1) = omega arith in
     clear-turn (modulo p) n k m (r - 1) (frame p n s) (frame p n t) (frame p n u) (subst (λ (q : ℕ). Cleared (modulo p) n k m q (frame p n s) (frame p n t)) e x) y
 
-module _ (p n k m : ℕ) (s c : State) (g : Given p n k c) (h : Headed (modulo p) k m (frame p n s)) (x : Cleared (modulo p) n k m 0 (frame p n s) (frame p n c)) (j : ℕ) (f : FirstNonzero (getD (getD c 0 []) 0 []) m k j) where
+module _ (p n k m : ℕ) (s c : State) (g : Given p n k c) (h : Headed (modulo p) k m (frame p n s)) (x : Cleared (modulo p) n k m 0 (frame p n s) (frame p n c)) (j : ℕ) (f : FirstNonzero (cell (getD c 0 []) 0) m k j) where
   -- row 0 has nothing from column m on
   pub settled-here : k ≤ j → Settled (modulo p) n k m (frame p n s) m (frame p n c)
   settled-here e = settled-same (modulo p) n k m (frame p n s) (frame p n c) h x (λ t a b. zero-entry p n (getD c 0 []) 0 t (omega (arith, g .fits)) (omega (arith, g .fits)) (f .zeros t a (omega arith)))
 
-  turned-change : j < k → Change (modulo p) n k (frame p n c) (frame p n (turned-state n j (j + 1) c))
-  turned-change l = rotated-change (modulo p) n j (j + 1) k _ _ (omega arith) (omega arith) (g .fits) (frame-within p n c) (frame-within p n (turned-state n j (j + 1) c)) (turned-reordered p n j (j + 1) (omega arith) (omega (arith, g .fits)) c)
+  module _ (l : j < k) (y : State) (o : InOrder n (rotation j (j + 1)) c y) where
+    turned-change : Change (modulo p) n k (frame p n c) (frame p n y)
+    turned-change = rotated-change (modulo p) n j (j + 1) k _ _ (omega arith) (omega arith) (g .fits) (frame-within p n c) (frame-within p n y) (o .reordered p)
 
-  pub turned-ready : j < k → Ready (modulo p) k 0 (frame p n (turned-state n j (j + 1) c))
-  turned-ready l = record { window = turned-change l .window (cleared-headed (modulo p) n k m 0 _ _ h x .window); columns = λ i t a. absurd (omega arith) }
+    pub turned-ready : Ready (modulo p) k 0 (frame p n y)
+    turned-ready = record { window = turned-change .window (cleared-headed (modulo p) n k m 0 _ _ h x .window); columns = λ i t a. absurd (omega arith) }
 
-  pub settled-further : j < k → (q : ℕ) (r : State) → Chained (modulo p) n k (frame p n (turned-state n j (j + 1) c)) q (frame p n r) → Settled (modulo p) n k m (frame p n s) q (frame p n r)
-  settled-further l q r y = settled-longer (modulo p) (prime-distinct p (g .prime-p)) n k m j q (frame p n s) (frame p n c) (frame p n (turned-state n j (j + 1) c)) (frame p n r) (g .fits) (f .low) l
-      (frame-within p n c) (frame-within p n (turned-state n j (j + 1) c)) h x (entry-nonzero p n (getD c 0 []) 0 j (g .fields .B) (omega (arith, g .fits)) (omega (arith, g .fits)) (f .hit l))
-      (subst (λ (i : ℕ). Reordered (modulo p) n (rotation j i) (frame p n c) (frame p n (turned-state n j (j + 1) c))) (add-one j) (turned-reordered p n j (j + 1) (omega arith) (omega (arith, g .fits)) c)) y
+    pub settled-further : (q : ℕ) (r : State) → Chained (modulo p) n k (frame p n y) q (frame p n r) → Settled (modulo p) n k m (frame p n s) q (frame p n r)
+    settled-further q r z = settled-longer (modulo p) (prime-distinct p (g .prime-p)) n k m j q (frame p n s) (frame p n c) (frame p n y) (frame p n r) (g .fits) (f .low) l
+        (frame-within p n c) (frame-within p n y) h x (entry-nonzero p n (getD c 0 []) 0 j (g .fields .B) (omega (arith, g .fits)) (omega (arith, g .fits)) (f .hit l))
+        (subst (λ (i : ℕ). Reordered (modulo p) n (rotation j i) (frame p n c) (frame p n y)) (add-one j) (o .reordered p)) z
 
 -- e_0 + e_j
-pub joined-vector : (p n k j : ℕ) (s : State) (w : List ℕ) → Given p n k s → j < k → w ≡ plus-row p n (unit-row 0) 1 (unit-row j) → (i : ℕ) → vector p n w i ≡ modulo p .plus (delta (modulo p) 0 i) (delta (modulo p) j i)
-joined-vector p n k j s w g l e i = ap (λ (x : List ℕ). vector p n x i) e ∙ units-vector p n 0 1 j (prime-positive p (g .prime-p)) (g .order) (omega (arith, g .fits)) (omega (arith, g .fits)) i
-    ∙ ap (modulo p .plus (delta (modulo p) 0 i)) (ap (λ x. modulo p .times x (delta (modulo p) j i)) (residue-one p) ∙ one-times (modulo p) _)
+abbrev pub joined-row : ℕ → List ℕ
+joined-row j = set (unit-row 0) j 1
 
-pub join-ready : (p n k j : ℕ) (s : State) (w : List ℕ) (t : State) → Given p n k s → j < k → Window (modulo p) k (matrix p n (getD s 0 [])) → w ≡ plus-row p n (unit-row 0) 1 (unit-row j)
-    → Replaced (modulo p) n 0 (vector p n w) (frame p n s) (frame p n t) → Ready (modulo p) k 0 (frame p n t)
-join-ready p n k j s w t g l v e r = joined-ready (modulo p) n k j (vector p n w) (frame p n s) (frame p n t) (g .fits) l (frame-within p n s) v (joined-vector p n k j s w g l e) r
+module _ (p n j : ℕ) (o : n ≤ order-limit) (a : 0 < j) (b : j < n) where
+  joined-second : getD (joined-row j) j 0 ≡ 1
+  joined-second = getD-set-same (unit-row 0) j 1 0 (omega (arith, length-set zero-row 0 1, length-replicate {A = ℕ} order-limit 0))
 
-pub joined : (p n k j : ℕ) (s : State) (w : List ℕ) (t r : State) → Given p n k s → j < k → w ≡ plus-row p n (unit-row 0) 1 (unit-row j) → Replaced (modulo p) n 0 (vector p n w) (frame p n s) (frame p n t)
-    → (m : ℕ) × Chained (modulo p) n k (frame p n t) m (frame p n r) → Joined (modulo p) n k j (frame p n s) (frame p n r)
-joined p n k j s w t r g l e x c = record { Z = frame p n t; w = vector p n w; is = joined-vector p n k j s w g l e; replaced = x; h = c .0; chained = c .1 }
+  pub joined-first : getD (joined-row j) 0 0 ≡ 1
+  joined-first = getD-set-other (unit-row 0) j 0 1 0 (omega arith) ∙ getD-set-same zero-row 0 1 0 (omega (arith, length-replicate {A = ℕ} order-limit 0))
+
+  joined-other : (i : ℕ) → i ≢ j → i ≢ 0 → getD (joined-row j) i 0 ≡ 0
+  joined-other i c d = getD-set-other (unit-row 0) j i 1 0 c ∙ getD-set-other zero-row 0 i 1 0 d ∙ zero-row-at i
+
+  pub joined-field : 1 < p → FieldRow p n (joined-row j)
+  joined-field h = record {
+    small = λ i l. elim (ℕ-discrete i j) [
+      | yes e ↦ rw (e, joined-second) h
+      | no c ↦ elim (ℕ-discrete i 0) [ yes e ↦ rw (e, joined-first) h | no d ↦ rw (joined-other i c d) (omega arith) ]
+    ];
+    rest = λ i l. joined-other i (omega arith) (omega arith);
+  }
+
+  joined-vector : (i : ℕ) → vector p n (joined-row j) i ≡ modulo p .plus (delta (modulo p) 0 i) (delta (modulo p) j i)
+  joined-vector i = elim (ℕ-discrete i j) [
+    | yes e ↦ rw e (vector-inside p n (joined-row j) j b ∙ ap (residue p) joined-second ∙ residue-one p
+        ∙ sym (ap₂ (modulo p .plus) (delta-other (modulo p) 0 j (omega arith)) (delta-same (modulo p) j) ∙ zero-plus (modulo p) _))
+    | no c ↦ elim (decLt i n) [
+      | yes l ↦ vector-inside p n (joined-row j) i l ∙ ap (residue p) (getD-set-other (unit-row 0) j i 1 0 c) ∙ unit-row-at 0 (omega arith) p i
+      | no l ↦ vector-upto p n (joined-row j) i (omega arith) ∙ sym (delta-other (modulo p) 0 i (omega arith))
+    ] ∙ sym (ap (modulo p .plus (delta (modulo p) 0 i)) (delta-other (modulo p) j i (λ e. c (sym e))) ∙ plus-zero (modulo p) _)
+  ]
+
+module _ (p n k j : ℕ) (s : State) (w : List ℕ) (t : State) (g : Given p n k s) (a : 0 < j) (l : j < k) (e : w ≡ joined-row j) (x : Replaced (modulo p) n 0 (vector p n w) (frame p n s) (frame p n t)) where
+  vector-is : (i : ℕ) → vector p n w i ≡ modulo p .plus (delta (modulo p) 0 i) (delta (modulo p) j i)
+  vector-is i = rw e (joined-vector p n j (g .order) a (omega (arith, g .fits)) i)
+
+  pub join-ready : Window (modulo p) k (matrix p n (getD s 0 [])) → Ready (modulo p) k 0 (frame p n t)
+  join-ready v = joined-ready (modulo p) n k j (vector p n w) (frame p n s) (frame p n t) (g .fits) l (frame-within p n s) v vector-is x
+
+  pub joined : (r : State) → (m : ℕ) × Chained (modulo p) n k (frame p n t) m (frame p n r) → Joined (modulo p) n k j (frame p n s) (frame p n r)
+  joined r c = record { Z = frame p n t; w = vector p n w; is = vector-is; replaced = x; h = c .0; chained = c .1 }
 
 -- one turn of the probe at j: e_j is killed as it stands, or joined to e_0
 pub probe-skips : (p n k m j : ℕ) (s t : State) → j < k → k ≤ n → Probing (modulo p) n k m j (frame p n s) (frame p n t) → Kills (modulo p) n (matrix p n (getD t 0 [])) (corner (modulo p) m (matrix p n (getD t 0 []))) (delta (modulo p) j)
@@ -151,5 +186,5 @@ chained-reach p n k s c g x r z = let h = chained-headed (modulo p) n k (frame p
 pub split-reach : (p n k : ℕ) (s c : State) → Given p n k c → (m : ℕ) × Split (modulo p) n k (frame p n s) m (frame p n c) → (r : ℕ) → Reach k (getD c 0 []) r → Split (modulo p) n k (frame p n s) r (frame p n c)
 split-reach p n k s c g x r z = subst (λ (q : ℕ). Split (modulo p) n k (frame p n s) q (frame p n c)) (reach-is p n k (x .0) r c (prime-means p (g .prime-p)) (g .fits) (g .fields) (x .1 .headed) z) (x .1)
 
-pub stage-next : (p n k m : ℕ) (A : Matrix (modulo p)) (s c : State) → k ≤ n → Stage (modulo p) n k A (frame p n s) → Split (modulo p) n k (frame p n s) m (frame p n c) → Stage (modulo p) n (k - m) A (frame p n (turned-state n m k c))
-stage-next p n k m A s c kn x y = stage-turn (modulo p) n k m A (frame p n s) (frame p n c) (frame p n (turned-state n m k c)) kn (frame-within p n c) (frame-within p n (turned-state n m k c)) x y (turned-reordered p n m k (y .headed .fits) kn c)
+pub stage-next : (p n k m : ℕ) (A : Matrix (modulo p)) (s c y : State) → k ≤ n → Stage (modulo p) n k A (frame p n s) → Split (modulo p) n k (frame p n s) m (frame p n c) → InOrder n (rotation m k) c y → Stage (modulo p) n (k - m) A (frame p n y)
+stage-next p n k m A s c y kn x z o = stage-turn (modulo p) n k m A (frame p n s) (frame p n c) (frame p n y) kn (frame-within p n c) (frame-within p n y) x z (o .reordered p)

@@ -1,17 +1,19 @@
--- One step of a pass at column j: a pivot of column j is brought to row j + 1, and then column j takes the place of e_(j+1).
+-- One step of a pass at column j: a pivot of column j is brought to row j + 1 by an exchange, and then column j takes the place of e_(j+1).
 use mathlib.Core.Path.{_≡_, refl, sym, _∙_, ap, ap₂, subst}
 use mathlib.Core.Logic.{_≢_}
 use Prim.Native.Nat.{ℕ, zero, suc, _≤_, _<_}
 use native.Mathlib.Decide.{decLt, ℕ-discrete}
 use native.Mathlib.Omega.{arith}
-use Rattle.algebra.specs.Ring.{Ring, times-zero, zero-times, zero-plus, one-times, times-one}
-use Rattle.algebra.specs.Solver.{_:+_, _:*_, :-_, :0, :1, solve₃, solve₄}
+use Rattle.algebra.specs.Ring.{Ring, times-zero, zero-times, times-one}
+use Rattle.algebra.specs.Solver.{_:+_, _:*_, :-_, :1, solve₃, solve₄}
 use Rattle.algebra.specs.Sum.{delta, delta-same, delta-other}
 use Rattle.algebra.specs.Matrix.{Vector, Upto}
-use Rattle.elimination.specs.Entries.{apply-single}
-use Rattle.elimination.specs.Frame.{Frame, FrameWithin}
-use Rattle.elimination.specs.Shear.{taken}
-use Rattle.elimination.specs.Replace.{added, Replaced, pivot-unit, replaced-other, replaced-row, replaced-column, replaced-row-same, replaced-T}
+use Rattle.basis.specs.Entries.{apply-single}
+use Rattle.basis.specs.Frame.{Frame, FrameWithin}
+use Rattle.basis.specs.Exchange.{exchange, exchange-first, exchange-other, exchange-cases}
+use Rattle.basis.specs.Reordering.{Reordered}
+use Rattle.basis.specs.Shear.{taken}
+use Rattle.basis.specs.Replace.{added, Replaced, pivot-unit, replaced-other, replaced-row, replaced-column, replaced-row-same, replaced-T}
 use Rattle.elimination.specs.Shapes.{UnitColumns, CompanionRows, Ahead, Kept}
 
 module _ {R : Type 0} (K : Ring R) where
@@ -102,22 +104,24 @@ module _ {R : Type 0} (K : Ring R) where
         columns = λ r t a. replaced-T K n (suc j) w X Y l o x m r t (λ q. omega arith);
       }
 
-  -- e_q, q beyond j + 1, is replaced by e_q - e_(j+1)
-  module _ (n j q : ℕ) (w : Vector K) (X Y : Frame K) (a : suc j < q) (l : q < n) (o : Upto K n w) (x : FrameWithin K n X)
-      (is : (i : ℕ) → w i ≡ delta K q i ⊕ ⊖ (delta K (suc j) i)) (m : Replaced K n q w X Y) where
+  -- e_(j+1) and e_q, q beyond j + 1, are exchanged
+  module _ (n j q : ℕ) (X Y : Frame K) (a : suc j < q) (l : q < n) (y : FrameWithin K n Y) (r : Reordered K n (exchange (suc j) q) X Y) where
+    stays : (t : ℕ) → t ≤ j → exchange (suc j) q t ≡ t
+    stays t g = exchange-other (suc j) q t (omega arith) (omega arith)
+
+    unit-stays : (t : ℕ) → t < j → (i : ℕ) → delta K (suc t) (exchange (suc j) q i) ≡ delta K (suc t) i
+    unit-stays t g = exchange-cases (λ i v. delta K (suc t) v ≡ delta K (suc t) i) (suc j) q
+        (delta-other K (suc t) q (omega arith) ∙ sym (delta-other K (suc t) (suc j) (omega arith))) (delta-other K (suc t) (suc j) (omega arith) ∙ sym (delta-other K (suc t) q (omega arith))) (λ i u v. refl)
+
     pub pull-columns : UnitColumns K j (X .B) → UnitColumns K j (Y .B)
-    pull-columns c i t g = replaced-column K n q w X Y l o x m i t (c q t g ∙ delta-other K (suc t) q (omega arith)) (λ e. omega arith) ∙ c i t g
-
-    by-one : m .by ≡ 𝟙
-    by-one = sym (solve₃ K (λ d x y. (:1 :+ :- :0) :* d) (λ d x y. d) refl (m .by) 𝟘 𝟘)
-        ∙ ap (λ y. y ⊗ m .by) (sym (is q ∙ ap₂ (λ y z. y ⊕ ⊖ z) (delta-same K q) (delta-other K (suc j) q (omega arith)))) ∙ pivot-unit K n q w X Y l o x m
-
-    taken-one : taken K (added K q w) (m .by) (suc j) ≡ 𝟙
-    unfolding added
-    taken-one = ap₂ (λ y z. ⊖ ((z ⊕ ⊖ (delta K q (suc j))) ⊗ y)) by-one (is (suc j))
-        ∙ ap (λ y. ⊖ ((delta K q (suc j) ⊕ ⊖ y ⊕ ⊖ (delta K q (suc j))) ⊗ 𝟙)) (delta-same K (suc j))
-        ∙ solve₃ K (λ e x y. :- ((e :+ :- :1 :+ :- e) :* :1)) (λ e x y. :1) refl (delta K q (suc j)) 𝟘 𝟘
+    pull-columns c i t g = elim (decLt i n) [
+      | yes h ↦ r .B i t h (omega arith) ∙ ap (X .B (exchange (suc j) q i)) (stays t (omega arith)) ∙ c (exchange (suc j) q i) t g ∙ unit-stays t g i
+      | no h ↦ y .B .rows i t (omega arith) ∙ sym (delta-other K (suc t) i (omega arith))
+    ]
 
     -- the pivot is now at row j + 1
-    pub pull-pivot : X .B (suc j) j ≡ 𝟘 → Y .B (suc j) j ≡ X .B q j
-    pull-pivot e = replaced-other K n q w X Y l o x m (suc j) j (λ e. omega arith) ∙ ap₂ (λ y z. y ⊕ z ⊗ X .B q j) e taken-one ∙ zero-plus K _ ∙ one-times K _
+    pub pull-pivot : Y .B (suc j) j ≡ X .B q j
+    pull-pivot = r .B (suc j) j (omega arith) (omega arith) ∙ ap₂ (X .B) (exchange-first (suc j) q) (stays j (omega arith))
+
+    pub pull-first : FrameWithin K n X → (i c : ℕ) → c ≤ j → Y .T i c ≡ X .T i c
+    pull-first x i c g = elim (decLt i n) [ yes h ↦ r .T i c h (omega arith) ∙ ap (X .T i) (stays c g) | no h ↦ y .T .rows i c (omega arith) ∙ sym (x .T .rows i c (omega arith)) ]

@@ -11,16 +11,15 @@ use Rattle.algebra.specs.Matrix.{Matrix, Vector, Within, identity}
 use Rattle.algebra.specs.Inverse.{basis-start}
 use Rattle.algebra.specs.Divides.{Divides}
 use Rattle.algebra.specs.Polynomial.{Polynomial, polynomials, Monic}
-use Rattle.elimination.specs.Frame.{Frame, FrameWithin, In, column, Window}
+use Rattle.basis.specs.Frame.{Frame, FrameWithin, In, column, Window}
 use Rattle.elimination.specs.Killing.{monic-of-low, monic-of-monic, corner, Kills, kills-span, kills-out-of-frame, corner-divides}
-use Rattle.elimination.specs.Rotation.{rotation, rotation-low, rotation-middle, rotation-high, rotation-below, Reordered, rotated-change}
+use Rattle.basis.specs.Rotation.{rotation, rotation-low, rotation-middle, rotation-high, rotation-below, rotated-change}
+use Rattle.basis.specs.Reordering.{Reordered}
 use Rattle.elimination.specs.Probe.{Split}
 
 module _ {R : Type 0} (K : Ring R) where
-  open Ring K using (plus as _⊕_, times as _⊗_, minus as ⊖_, zero as 𝟘, one as 𝟙)
+  open Ring K using (minus as ⊖_, zero as 𝟘)
 
-  infixl 60 _⊕_
-  infixl 70 _⊗_
   infix 80 ⊖_
   -- a polynomial and its degree
   pub record Block : Type 0 where

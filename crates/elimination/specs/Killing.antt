@@ -1,7 +1,7 @@
 -- Polynomials that kill vectors, f(A) v = 0: the polynomial of a companion block kills the block's vectors, what kills some vectors kills
 -- their combinations, and a polynomial that kills the first vector of a companion block is a multiple of the block's polynomial.
 use mathlib.Core.Path.{_≡_, sym, _∙_, ap, ap₂, fun-ext, subst}
-use Prim.Native.Nat.{ℕ, zero, suc, _+_, _-_, _≤_, _<_}
+use Prim.Native.Nat.{ℕ, zero, suc, _-_, _≤_, _<_}
 use native.Mathlib.Decide.{decLt}
 use native.Mathlib.Omega.{arith}
 use Rattle.algebra.specs.Choice.{below, below-inside, below-outside}
@@ -13,8 +13,8 @@ use Rattle.algebra.specs.Divides.{Divides}
 use Rattle.algebra.specs.Polynomial.{Polynomial, polynomials, polynomial-equal, zero-of-below, Monic}
 use Rattle.algebra.specs.Division.{Division, divide-monic}
 use Rattle.algebra.specs.Action.{power, power-zero, power-suc, linear-sum, act, act-plus, act-times, act-X, act-linear, act-upto, act-as-sum, act-similar}
-use Rattle.elimination.specs.Entries.{apply-delta}
-use Rattle.elimination.specs.Frame.{Frame, In, column}
+use Rattle.basis.specs.Entries.{apply-delta}
+use Rattle.basis.specs.Frame.{Frame, In, column}
 use Rattle.elimination.specs.Shapes.{CompanionColumns}
 
 module _ {R : Type 0} (K : Ring R) where

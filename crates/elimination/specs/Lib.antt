@@ -1,21 +1,15 @@
-pub mod Frame
-pub mod Entries
-pub mod Shear
-pub mod Replace
+-- The definitions and laws of the elimination.
 pub mod Shapes
 pub mod Chain
 pub mod Killing
 pub mod Wipe
-pub mod Rotation
+pub mod Insertion
 pub mod Pass
 pub mod Settle
 pub mod Probe
 pub mod Form
-pub mod Remainders
-pub mod State
-pub mod Steps
-pub mod Searches
-pub mod Turns
+pub mod Tails
+pub mod Reaching
 pub mod Powers
 pub mod Passing
 pub mod Blocking

@@ -1,24 +1,23 @@
 -- The pass: from column 0 on, column j takes the place of e_(j+1) as long as it has a pivot in the window [0,k). What it does to a frame,
 -- and how far it gets at least.
-use mathlib.Core.Path.{_≡_, refl, sym, _∙_, ap₂}
+use mathlib.Core.Path.{_≡_, refl, sym, _∙_}
 use mathlib.Core.Logic.{_≢_}
 use Prim.Native.Nat.{ℕ, suc, _≤_, _<_}
 use native.Mathlib.Decide.{decLt}
 use native.Mathlib.Omega.{arith}
-use Rattle.algebra.specs.Ring.{Ring, plus-minus}
-use Rattle.algebra.specs.Sum.{delta, delta-same, delta-other}
+use Rattle.algebra.specs.Ring.{Ring}
+use Rattle.algebra.specs.Sum.{delta-same}
 use Rattle.algebra.specs.Matrix.{Vector, Upto}
-use Rattle.elimination.specs.Frame.{Frame, FrameWithin, Window, Change, change-none, change-then}
-use Rattle.elimination.specs.Replace.{Replaced, replaced-change, replaced-T}
+use Rattle.basis.specs.Frame.{Frame, FrameWithin, Window, Change, change-none, change-then}
+use Rattle.basis.specs.Exchange.{exchange, exchanged-change}
+use Rattle.basis.specs.Reordering.{Reordered}
+use Rattle.basis.specs.Replace.{Replaced, replaced-change, replaced-T}
 use Rattle.elimination.specs.Shapes.{UnitColumns, CompanionRows, Ahead, ahead-none, Kept, kept-none, kept-then, kept-rows}
-use Rattle.elimination.specs.Chain.{push-columns, push-ahead, push-kept, pull-columns, pull-pivot}
+use Rattle.elimination.specs.Chain.{push-columns, push-ahead, push-kept, pull-columns, pull-pivot, pull-first}
 
 module _ {R : Type 0} (K : Ring R) where
-  open Ring K using (plus as _⊕_, times as _⊗_, minus as ⊖_, zero as 𝟘, one as 𝟙)
+  open Ring K using (zero as 𝟘, one as 𝟙)
 
-  infixl 60 _⊕_
-  infixl 70 _⊗_
-  infix 80 ⊖_
   -- where the step at j begins
   pub record Ready (k j : ℕ) (X : Frame K) : Type 0 where
     pub window : Window K k (X .B)
@@ -74,21 +73,19 @@ module _ {R : Type 0} (K : Ring R) where
     pub as-long : (h : ℕ) → CompanionRows K h (X .B) → h ≤ m
 
   module _ (distinct : 𝟙 ≢ 𝟘) where
-    pub pull-pulls : (n k j q : ℕ) (w : Vector K) (X Y : Frame K) → q < k → k ≤ n → suc j < q → FrameWithin K n X → Ready k j X → X .B (suc j) j ≡ 𝟘 → X .B q j ≢ 𝟘
-        → ((i : ℕ) → w i ≡ delta K q i ⊕ ⊖ (delta K (suc j) i)) → Replaced K n q w X Y → Pulled n k j X Y
-    pull-pulls n k j q w X Y l h a x r zero hit is m =
-        let upto : Upto K k w = λ i g. is i ∙ ap₂ (λ y z. y ⊕ ⊖ z) (delta-other K q i (omega arith)) (delta-other K (suc j) i (omega arith)) ∙ plus-minus K 𝟘 in
-        let all : Upto K n w = λ i g. upto i (omega arith) in
-        let change = replaced-change K n k q w X Y l h upto x m in
+    pub pull-pulls : (n k j q : ℕ) (X Y : Frame K) → q < k → k ≤ n → suc j < q → FrameWithin K n X → FrameWithin K n Y → Ready k j X → X .B (suc j) j ≡ 𝟘 → X .B q j ≢ 𝟘
+        → Reordered K n (exchange (suc j) q) X Y → Pulled n k j X Y
+    pull-pulls n k j q X Y l h a x y r zero hit m =
+        let change = exchanged-change K n k (suc j) q X Y (omega arith) l h x y m in
         record {
           passed = record {
             change = change;
-            ready = record { window = change .window (r .window); columns = pull-columns K n j q w X Y a (omega arith) all x is m (r .columns) };
-            ahead = λ y e. elim (decLt j y) [ yes g ↦ absurd (e .pivot j (omega arith) g zero) | no g ↦ ahead-none K y j _ (omega arith) ];
-            kept = λ y e g. absurd (distinct (sym (e .unit (suc j) j g g ∙ delta-same K (suc j)) ∙ zero));
-            first = λ r c g. replaced-T K n q w X Y (omega arith) all x m r c (omega arith);
+            ready = record { window = change .window (r .window); columns = pull-columns K n j q X Y a (omega arith) y m (r .columns) };
+            ahead = λ t e. elim (decLt j t) [ yes g ↦ absurd (e .pivot j (omega arith) g zero) | no g ↦ ahead-none K t j _ (omega arith) ];
+            kept = λ t e g. absurd (distinct (sym (e .unit (suc j) j g g ∙ delta-same K (suc j)) ∙ zero));
+            first = pull-first K n j q X Y a (omega arith) y m x;
           };
-          pivot = λ e. hit (sym (pull-pivot K n j q w X Y a (omega arith) all x is m zero) ∙ e);
+          pivot = λ e. hit (sym (pull-pivot K n j q X Y a (omega arith) y m) ∙ e);
         }
 
     pub pass-ends : (n k j : ℕ) (X Y : Frame K) → j < k → Passed n k 0 X j j Y → ((i : ℕ) → j < i → i < k → Y .B i j ≡ 𝟘) → Chained n k X (suc j) Y

@@ -1,12 +1,13 @@
 -- The test by powers whether the polynomial of a block kills e_j: B^m e_j against the combination of the powers before it.
-use mathlib.Core.Path.{_≡_, sym, _∙_, ap, ap₂}
+use mathlib.Core.Path.{_≡_, refl, sym, _∙_, ap, ap₂, fun-ext}
 use mathlib.Core.Bool.{Bool, true}
 use mathlib.Core.List.{List, []}
 use Prim.Native.Nat.{ℕ, _+_, _-_, _≤_, _<_}
 use native.Mathlib.Numerals.{add-one}
 use native.Mathlib.Omega.{arith}
-use lib.ListN.{getD}
+use lib.ListN.{getD, set}
 use Rattle.forms.specs.Numbers.{order-limit}
+use Rattle.algebra.specs.Ring.{zero-plus}
 use Rattle.algebra.specs.Sum.{sum, sum-nil, sum-suc, sum-equal, delta, delta-other}
 use Rattle.algebra.specs.Matrix.{Matrix, Vector, Upto, vector-equal, apply, apply-at, apply-product, apply-upto, identity-apply}
 use Rattle.algebra.specs.Modular.{residue, modulo, residue-times, residue-remainder}
@@ -14,10 +15,12 @@ use Rattle.algebra.specs.Action.{power, power-zero, power-suc}
 use Rattle.matrices.specs.Filling.{filled, filled-inside}
 use Rattle.matrices.specs.Matrices.{cell, vector, matrix, vector-inside, vector-upto, matrix-inside, matrix-within, zero-row}
 use Rattle.forms.specs.Rings.{total-residue}
-use Rattle.matrices.specs.Rows.{plus-row, unit-row}
+use Rattle.matrices.specs.Rows.{plus-row}
+use Rattle.basis.specs.Entries.{apply-delta}
 use Rattle.elimination.specs.Killing.{corner, Kills, kills-by-powers}
-use Rattle.elimination.specs.State.{Array, unit-vector, plus-row-vector, zero-vector}
-use Rattle.elimination.specs.Steps.{entry-of}
+use Rattle.basis.specs.Searches.{column-of, column-of-at}
+use Rattle.basis.specs.State.{Array, plus-row-vector, single-vector, column-vector}
+use Rattle.basis.specs.Steps.{entry-of}
 
 -- b g
 abbrev pub applied : (p n : ℕ) → Array → List ℕ → List ℕ
@@ -41,10 +44,19 @@ module _ (p n m j : ℕ) (b : Array) (h : 0 < p) (o : n ≤ order-limit) (l : j 
   unit-upto : Upto (modulo p) n (delta (modulo p) j)
   unit-upto i g = delta-other (modulo p) j i (omega arith)
 
-  pub powered-start : Powered p n m j b 0 (unit-row j) zero-row
-  powered-start = record {
-    power-is = unit-vector p n j o l ∙ sym (ap (λ (M : Matrix (modulo p)). apply (modulo p) n M (delta (modulo p) j)) (power-zero (modulo p) n (matrix p n b)) ∙ identity-apply (modulo p) n _ unit-upto);
-    sum-is = λ i. zero-vector p n i ∙ sym (sum-nil (modulo p) _);
+  power-none : apply (modulo p) n (power (modulo p) n (matrix p n b) 0) (delta (modulo p) j) ≡ delta (modulo p) j
+  power-none = ap (λ (M : Matrix (modulo p)). apply (modulo p) n M (delta (modulo p) j)) (power-zero (modulo p) n (matrix p n b)) ∙ identity-apply (modulo p) n _ unit-upto
+
+  power-one : apply (modulo p) n (power (modulo p) n (matrix p n b) 1) (delta (modulo p) j) ≡ (λ i. matrix p n b i j)
+  power-one = ap (λ (M : Matrix (modulo p)). apply (modulo p) n M (delta (modulo p) j)) (power-suc (modulo p) n (matrix p n b) 0) ∙ apply-product (modulo p) n _ _ _
+      ∙ ap (apply (modulo p) n (matrix p n b)) power-none ∙ apply-delta (modulo p) n (matrix p n b) j l
+
+  -- B e_j is column j, and the combination of the one power before it has one entry
+  pub powered-start : 0 < n → m - 1 < n → Powered p n m j b 1 (column-of n b j) (set zero-row j (cell b 0 (m - 1)))
+  powered-start zn mn = record {
+    power-is = fun-ext (column-vector p n j b (column-of n b j) l (column-of-at n b j)) ∙ sym power-one;
+    sum-is = λ i. single-vector p n j (cell b 0 (m - 1)) o l i ∙ ap₂ (modulo p .times) (sym (matrix-inside p n b 0 (m - 1) zn mn)) (ap (λ (w : Vector (modulo p)). w i) (sym power-none))
+        ∙ sym (sum-suc (modulo p) _ 0 ∙ ap₂ (modulo p .plus) (sum-nil (modulo p) _) refl ∙ zero-plus (modulo p) _);
   }
 
   pub powered-turn : (e : ℕ) (g v : List ℕ) → e < n → m - 1 < n → Powered p n m j b e g v → Powered p n m j b (e + 1) (applied p n b g) (plus-row p n v (cell b e (m - 1)) g)

@@ -8,9 +8,9 @@ use Rattle.algebra.specs.Ring.{Ring, plus-zero, times-one, times-zero, zero-tim
 use Rattle.algebra.specs.Solver.{_:+_, _:*_, :-_, :1, solve₃}
 use Rattle.algebra.specs.Sum.{sum-equal, sum-of-plus, sum-of-delta, delta, delta-same, delta-other}
 use Rattle.algebra.specs.Matrix.{Matrix, Vector, Upto, apply-at}
-use Rattle.elimination.specs.Entries.{apply-single}
-use Rattle.elimination.specs.Frame.{Frame, FrameWithin, In, column, Window, Change, change-none, change-then}
-use Rattle.elimination.specs.Replace.{Replaced, replaced-change, replaced-row, replaced-row-same, replaced-T, replaced-T-same}
+use Rattle.basis.specs.Entries.{apply-single}
+use Rattle.basis.specs.Frame.{Frame, FrameWithin, In, column, Window, Change, change-none, change-then}
+use Rattle.basis.specs.Replace.{Replaced, replaced-change, replaced-row, replaced-row-same, replaced-T, replaced-T-same}
 use Rattle.elimination.specs.Shapes.{CompanionRows, rows-equal, Kept}
 use Rattle.elimination.specs.Killing.{monic-of-equal, corner, Kills, kills-in-frame, kills-difference, corner-kills}
 use Rattle.elimination.specs.Pass.{Ready, Chained}

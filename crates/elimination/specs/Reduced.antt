@@ -5,9 +5,9 @@ use Prim.Native.Nat.{ℕ}
 use lib.ListN.{getD}
 use Rattle.algebra.specs.Modular.{modulo}
 use Rattle.matrices.specs.Matrices.{matrix}
-use Rattle.elimination.specs.Frame.{In}
+use Rattle.basis.specs.Frame.{In}
 use Rattle.elimination.specs.Form.{Block, Form, Stage}
-use Rattle.elimination.specs.State.{Array, State, frame, Fields}
+use Rattle.basis.specs.State.{Array, State, frame, Fields}
 
 pub record Reduced (p n : ℕ) (a : Array) (s : State) : Type 0 where
   pub fields : Fields p n s

@@ -6,17 +6,16 @@ use Prim.Native.Nat.{ℕ, suc, _≤_, _<_}
 use native.Mathlib.Decide.{decLt, ℕ-discrete}
 use native.Mathlib.Omega.{arith}
 use Rattle.algebra.specs.Ring.{Ring}
-use Rattle.elimination.specs.Frame.{Frame, FrameWithin, Window, Change, change-none, change-then}
+use Rattle.basis.specs.Frame.{Frame, FrameWithin, Window, Change, change-none, change-then}
 use Rattle.elimination.specs.Shapes.{CompanionColumns, columns-of-units, columns-equal, CompanionRows}
-use Rattle.elimination.specs.Rotation.{rotation, Reordered, rotated-change, inserted-ahead}
+use Rattle.elimination.specs.Insertion.{inserted-ahead}
+use Rattle.basis.specs.Reordering.{Reordered}
+use Rattle.basis.specs.Rotation.{rotation, rotated-change}
 use Rattle.elimination.specs.Pass.{Chained}
 
 module _ {R : Type 0} (K : Ring R) where
-  open Ring K using (plus as _⊕_, times as _⊗_, minus as ⊖_, zero as 𝟘, one as 𝟙)
+  open Ring K using (zero as 𝟘, one as 𝟙)
 
-  infixl 60 _⊕_
-  infixl 70 _⊗_
-  infix 80 ⊖_
   -- a companion block of m at the head of the window [0,k)
   pub record Headed (k m : ℕ) (X : Frame K) : Type 0 where
     pub some : 0 < m

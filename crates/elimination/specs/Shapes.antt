@@ -8,14 +8,11 @@ use native.Mathlib.Omega.{arith}
 use Rattle.algebra.specs.Ring.{Ring}
 use Rattle.algebra.specs.Sum.{delta, delta-other}
 use Rattle.algebra.specs.Matrix.{Matrix}
-use Rattle.elimination.specs.Frame.{Frame}
+use Rattle.basis.specs.Frame.{Frame}
 
 module _ {R : Type 0} (K : Ring R) where
-  open Ring K using (plus as _⊕_, times as _⊗_, minus as ⊖_, zero as 𝟘, one as 𝟙)
+  open Ring K using (zero as 𝟘)
 
-  infixl 60 _⊕_
-  infixl 70 _⊗_
-  infix 80 ⊖_
   -- the first j columns are e_1 .. e_j
   abbrev pub UnitColumns : ℕ → Matrix K → Type 0
   UnitColumns j B = (i t : ℕ) → t < j → B i t ≡ delta K (suc t) i

@@ -9,13 +9,13 @@ use Rattle.algebra.specs.Ring.{Ring, one-times, times-zero, zero-times, plus-mi
 use Rattle.algebra.specs.Sum.{delta, delta-same, delta-other}
 use Rattle.algebra.specs.Matrix.{Matrix, Vector, Upto, product}
 use Rattle.algebra.specs.Elementary.{elementary}
-use Rattle.elimination.specs.Entries.{plus-zero-times, plus-times-zero, apply-delta, combine-none, product-elementary-at}
-use Rattle.elimination.specs.Frame.{Frame, FrameWithin, Window, Change}
-use Rattle.elimination.specs.Shear.{taken-zero, Sheared, sheared-change, sheared-at}
+use Rattle.basis.specs.Entries.{plus-zero-times, plus-times-zero, apply-delta, combine-none, product-elementary-at}
+use Rattle.basis.specs.Frame.{Frame, FrameWithin, Window, Change}
+use Rattle.basis.specs.Shear.{taken-zero, Sheared, sheared-change, sheared-at}
 use Rattle.elimination.specs.Shapes.{CompanionColumns}
 
 module _ {R : Type 0} (K : Ring R) where
-  open Ring K using (plus as _⊕_, times as _⊗_, minus as ⊖_, zero as 𝟘, one as 𝟙)
+  open Ring K using (plus as _⊕_, times as _⊗_, minus as ⊖_, zero as 𝟘)
 
   infixl 60 _⊕_
   infixl 70 _⊗_

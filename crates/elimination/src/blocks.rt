@@ -7,31 +7,31 @@ ghost use lib.ListN.{getD};
 ghost use Rattle.forms.specs.Numbers.{order-limit};
 ghost use Rattle.algebra.specs.Choice.{below};
 ghost use Rattle.algebra.specs.Modular.{modulo};
-ghost use Rattle.matrices.specs.Matrices.{matrix, FieldRow};
-ghost use Rattle.elimination.specs.Frame.{Window};
-ghost use Rattle.elimination.specs.Remainders.{factor-of};
+ghost use Rattle.matrices.specs.Matrices.{matrix, FieldRow, FieldMatrix};
+ghost use Rattle.basis.specs.Frame.{Window};
+ghost use Rattle.basis.specs.Remainders.{factor-of};
 ghost use Rattle.elimination.specs.Shapes.{CompanionRows};
 ghost use Rattle.elimination.specs.Settle.{Headed, Wiped, Cleared, Settled};
 ghost use Rattle.elimination.specs.Probe.{Joined, Probed, Split};
-ghost use Rattle.elimination.specs.State.{frame, Fields, Given};
-ghost use Rattle.elimination.specs.Searches.{tail-of};
+ghost use Rattle.basis.specs.State.{frame, Fields, Given};
+ghost use Rattle.elimination.specs.Tails.{tail-of};
 ghost use Rattle.elimination.specs.Powers.{applied, KilledTest};
 use crate::passes::chain;
 use crate::passes::reach;
-use crate::remainders::factor;
-use crate::steps::State;
-use crate::steps::add_multiple;
-use crate::steps::column;
-use crate::steps::first_nonzero;
-use crate::steps::inner;
-use crate::steps::plus_outer;
-use crate::steps::replace;
-use crate::turning::rotate;
+use basis::remainders::factor;
+use basis::steps::State;
+use basis::steps::add_multiple;
+use basis::steps::column;
+use basis::steps::combination;
+use basis::steps::first_nonzero;
+use basis::steps::inner;
+use basis::steps::plus_outer;
+use basis::steps::replace;
+use basis::steps::with_entry;
+use basis::turning::rotate;
 use forms::ORDER;
 use matrices::Mat;
 use matrices::Row;
-use matrices::inversion::plus_row;
-use matrices::product_row;
 use matrices::unit_row;
 
 fn tail_entry(x: u8, j: usize, m: usize, p: u8) -> u8
@@ -68,12 +68,11 @@ fn wipe(s: State, a: usize, m: usize, k: usize, n: usize, p: u8) -> State
         return s;
     }
     let v = tail(x, m, k, n, p);
-    let z = [0u8; ORDER];
-    let u = plus_row(z, p - 1, unit_row(a), n, p);
+    let u = with_entry([0u8; ORDER], a, p - 1);
     let c = plus_outer(s[0], column(s[0], a, n), v, n, p);
-    let b = plus_outer(c, u, product_row(v, c, n, p), n, p);
+    let b = plus_outer(c, u, combination(v, c, n, p), n, p);
     let t = plus_outer(s[1], column(s[1], a, n), v, n, p);
-    let i = plus_outer(s[2], u, product_row(v, s[2], n, p), n, p);
+    let i = plus_outer(s[2], u, combination(v, s[2], n, p), n, p);
     [b, t, i]
 }
 
@@ -106,13 +105,13 @@ fn settle(s: State, m: usize, k: usize, n: usize, p: u8) -> State
 
 // b g
 fn apply(b: Mat, g: Row, n: usize, p: u8, factor: u64) -> Row
-    requires { ⌜ (n ≤ order-limit) × (0 < p) × (factor ≡ factor-of p) ⌝ }
+    requires { ⌜ (n ≤ order-limit) × (0 < p) × (factor ≡ factor-of p) × FieldMatrix p n b ⌝ }
     ensures { λ r. ⌜ r ≡ applied p n b g ⌝ }
 {
     let mut r = [0u8; ORDER];
     let mut i = 0;
     while i < n {
-        r[i] = inner(b[i], g, n, p, factor);
+        r[i] = inner(b[i], g, p, factor);
         i = i + 1;
     }
     r
@@ -134,13 +133,13 @@ fn same_row(x: Row, y: Row, n: usize) -> bool
 
 // Whether the polynomial of the block of m kills e_j, tried by powers of b.
 fn killed(b: Mat, j: usize, m: usize, n: usize, p: u8) -> bool
-    requires { ⌜ (n ≤ order-limit) × (0 < p) × (j < n) × (0 < m) × (m ≤ n) ⌝ }
+    requires { ⌜ (n ≤ order-limit) × (0 < p) × (j < n) × (0 < m) × (m ≤ n) × FieldMatrix p n b ⌝ }
     ensures { λ r. ⌜ KilledTest p n m j b r ⌝ }
 {
     let f = factor(p);
-    let mut g = unit_row(j);
-    let mut v = [0u8; ORDER];
-    let mut e = 0;
+    let mut g = column(b, j, n);
+    let mut v = with_entry([0u8; ORDER], j, b[0][m - 1]);
+    let mut e = 1;
     while e < m {
         let y = add_multiple(v, b[e][m - 1], g, n, p, f);
         let x = apply(b, g, n, p, f);
@@ -156,7 +155,7 @@ fn join(s: State, j: usize, k: usize, n: usize, p: u8) -> State
     requires { ⌜ Given p n k s × (0 < j) × (j < k) × Window (modulo p) k (matrix p n (getD s 0 [])) ⌝ }
     ensures { λ r. ⌜ Fields p n r × Joined (modulo p) n k j (frame p n s) (frame p n r) ⌝ }
 {
-    let w = plus_row(unit_row(0), 1, unit_row(j), n, p);
+    let w = with_entry(unit_row(0), j, 1);
     chain(replace(s, 0, w, n, p), k, n, p)
 }
 
@@ -173,7 +172,7 @@ fn probe(mut s: State, m: usize, k: usize, n: usize, p: u8) -> State
         }
         let x = join(s, j, k, n, p);
         s = x;
-        if m < reach(s[0], k, n) {
+        if m < reach(s[0], k) {
             return s;
         }
         j = j + 1;
@@ -187,7 +186,7 @@ fn round(s: State, m: usize, k: usize, n: usize, p: u8) -> State
     ensures { λ r. ⌜ Fields p n r × ((h : ℕ) × Probed (modulo p) n k m (frame p n s) h (frame p n r)) ⌝ }
 {
     let c = settle(s, m, k, n, p);
-    if m < reach(c[0], k, n) {
+    if m < reach(c[0], k) {
         return c;
     }
     probe(c, m, k, n, p)
@@ -199,11 +198,11 @@ pub fn split(s: State, k: usize, n: usize, p: u8) -> State
     ensures { λ r. ⌜ Fields p n r × ((m : ℕ) × Split (modulo p) n k (frame p n s) m (frame p n r)) ⌝ }
 {
     let mut c = chain(s, k, n, p);
-    let mut m = reach(c[0], k, n);
+    let mut m = reach(c[0], k);
     loop {
         let x = round(c, m, k, n, p);
         c = x;
-        let h = reach(c[0], k, n);
+        let h = reach(c[0], k);
         if h <= m {
             return c;
         }

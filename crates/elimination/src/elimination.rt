@@ -6,8 +6,8 @@ ghost use Rattle.matrices.specs.Matrices.{FieldMatrix};
 ghost use Rattle.elimination.specs.Reduced.{Reduced};
 use crate::blocks::split;
 use crate::passes::reach;
-use crate::steps::State;
-use crate::turning::rotate;
+use basis::steps::State;
+use basis::turning::rotate;
 use matrices::Mat;
 use matrices::identity;
 
@@ -21,7 +21,7 @@ pub fn reduce(a: Mat, n: usize, p: u8) -> State
     let mut k = n;
     while 0 < k {
         let c = split(s, k, n, p);
-        let m = reach(c[0], k, n);
+        let m = reach(c[0], k);
         let x = rotate(c, m, k, n);
         s = x;
         k = k - m;

@@ -1,7 +1,4 @@
 // The elimination: a field matrix in a basis in which it is the block diagonal of companion blocks.
-pub mod remainders; // remainders by a multiplication
-pub mod steps; // rows and columns, and the changes of basis
-pub mod turning; // the basis in another order
 pub mod passes; // the pass that makes a block
 pub mod blocks; // the block whose polynomial kills the window
 pub mod elimination; // block after block

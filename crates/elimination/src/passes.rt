@@ -5,28 +5,41 @@ ghost use Prim.Native.Nat.{ℕ, suc, _+_, _≤_, _<_};
 ghost use lib.ListN.{getD};
 ghost use Rattle.forms.specs.Numbers.{order-limit};
 ghost use Rattle.algebra.specs.Modular.{modulo};
-ghost use Rattle.matrices.specs.Matrices.{matrix};
+ghost use Rattle.matrices.specs.Matrices.{cell, matrix};
 ghost use Rattle.elimination.specs.Pass.{Ready, Passed, Pulled, Chained};
-ghost use Rattle.elimination.specs.State.{frame, Fields, Given};
-ghost use Rattle.elimination.specs.Searches.{column-of, FirstNonzero, Reach};
-use crate::steps::State;
-use crate::steps::column;
-use crate::steps::first_nonzero;
-use crate::steps::replace;
+ghost use Rattle.basis.specs.State.{frame, Fields, Given};
+ghost use Rattle.basis.specs.Searches.{FirstNonzero};
+ghost use Rattle.elimination.specs.Reaching.{Reach};
+use basis::exchange::exchange_vectors;
+use basis::steps::State;
+use basis::steps::column;
+use basis::steps::replace;
 use matrices::Mat;
-use matrices::inversion::plus_row;
-use matrices::unit_row;
+
+// The first row from j + 1 on, below k, where column j is not zero; k if there is none.
+fn first_pivot(b: Mat, j: usize, k: usize) -> usize
+    requires { ⌜ (j < k) × (k ≤ order-limit) ⌝ }
+    ensures { λ r. ⌜ FirstNonzero (λ i. cell b i j) (j + 1) k r ⌝ }
+{
+    let mut i = j + 1;
+    while i < k {
+        if b[i][j] != 0 {
+            return i;
+        }
+        i = i + 1;
+    }
+    k
+}
 
 // The first pivot of column j, at row q, comes to row j + 1.
 fn pull(s: State, j: usize, q: usize, k: usize, n: usize, p: u8) -> State
-    requires { ⌜ Given p n k s × (q < k) × Ready (modulo p) k j (frame p n s) × FirstNonzero (column-of n (getD s 0 []) j) (j + 1) k q ⌝ }
+    requires { ⌜ Given p n k s × (q < k) × Ready (modulo p) k j (frame p n s) × FirstNonzero (λ i. cell (getD s 0 []) i j) (j + 1) k q ⌝ }
     ensures { λ r. ⌜ Fields p n r × Pulled (modulo p) n k j (frame p n s) (frame p n r) ⌝ }
 {
     if q == j + 1 {
         return s;
     }
-    let w = plus_row(unit_row(q), p - 1, unit_row(j + 1), n, p);
-    replace(s, q, w, n, p)
+    exchange_vectors(s, j + 1, q, n)
 }
 
 // Column j takes the place of e_(j+1).
@@ -45,7 +58,7 @@ pub fn chain(mut s: State, k: usize, n: usize, p: u8) -> State
 {
     let mut j = 0;
     loop {
-        let q = first_nonzero(column(s[0], j, n), j + 1, k);
+        let q = first_pivot(s[0], j, k);
         if k <= q {
             return s;
         }
@@ -56,13 +69,13 @@ pub fn chain(mut s: State, k: usize, n: usize, p: u8) -> State
 }
 
 // How long the block at the head of the window is: up to the first column with no pivot.
-pub fn reach(b: Mat, k: usize, n: usize) -> usize
-    requires { ⌜ (0 < k) × (k ≤ n) × (n ≤ order-limit) ⌝ }
+pub fn reach(b: Mat, k: usize) -> usize
+    requires { ⌜ (0 < k) × (k ≤ order-limit) ⌝ }
     ensures { λ r. ⌜ Reach k b r ⌝ }
 {
     let mut j = 0;
     while j + 1 < k {
-        let q = first_nonzero(column(b, j, n), j + 1, k);
+        let q = first_pivot(b, j, k);
         if k <= q {
             return j + 1;
         }

@@ -46,10 +46,10 @@ row-place i j m n a b =
     let g : suc i * n ≤ m * n = mul-le-mul {n₁ = suc i} {m₁ = n} {n₂ = m} {m₂ = n} a (omega arith) in
     omega arith
 
-row-of : (i j n : ℕ) → j < n → (i * n + j) / n ≡ i
+pub row-of : (i j n : ℕ) → j < n → (i * n + j) / n ≡ i
 row-of i j n b = mul-add-div-right (omega arith) i j ∙ ap (λ (x : ℕ). i + x) (div-eq-of-lt b) ∙ add-zero i
 
-place-of : (i j n : ℕ) → j < n → (i * n + j) % n ≡ j
+pub place-of : (i j n : ℕ) → j < n → (i * n + j) % n ≡ j
 place-of i j n b = mul-add-mod-self-right i n j ∙ mod-eq-of-lt b
 
 -- the payload of a matrix

@@ -41,7 +41,7 @@ module _ (p : ℕ) (positive : 0 < p) where
   prepend-residue x r zero = refl
   prepend-residue x r (suc k) = refl
 
-  zero-value : (a : Residue p) → a ≡ 𝟘 → a .0 ≡ 0
+  pub zero-value : (a : Residue p) → a ≡ 𝟘 → a .0 ≡ 0
   zero-value a e = ap (λ (x : Residue p). x .0) (e ∙ sym (residue-zero p)) ∙ residue-value p 0 positive ∙ zero-mod p
 
   -- F is f modulo p

@@ -1,3 +1,4 @@
+-- A refusal leaves the output as it was; else what is written is a certificate of the matrix.
 use borrow.Author.Needs.{needs}
 use native.Mathlib.Omega.{arith}
 use mathlib.Core.Path.{_≡_, sym, _∙_, ap}
@@ -8,13 +9,8 @@ use Rattle.forms.specs.Primes.{prime-limited}
 use Rattle.forms.specs.LegalRequests.{Legal, asked-legal}
 use Rattle.certificate.specs.ReadRecords.{limits-asked}
 use Rattle.analysis.specs.Questions.{analyses-refused, analyses-written, asked-room}
-use borrow.Author.Needs.{needs}
 use Rattle.analysis.proofs.analysis.Statement.{statement}
 use Rattle.analysis.proofs.analysis.Tie as tie
-use Rattle.analysis.proofs.analysis.Reads as reads
-use Rattle.analysis.proofs.analysis.Lts as lts
-use Rattle.analysis.proofs.questions.analysis_asked.Reads as analysis-asked-reads
-use Rattle.analysis.proofs.write.Reads as write-reads
 
 -- nothing is refused
 asked-fine : (c : tie.After-enum-told) → analysis-asked (c .before .before .before .before .before .args .p) (c .before .before .before .before .before .args .n) (c .before .before .before .before .before .args .matrix .now) (length (c .before .before .before .before .before .args .out .now)) ≡ fine

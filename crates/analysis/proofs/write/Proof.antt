@@ -1,23 +1,16 @@
+-- The elimination and the tables of its blocks give a certificate, and its layout is what the records are.
 use borrow.Author.Needs.{needs}
-use native.Mathlib.Omega.{arith}
 use mathlib.Core.Path.{subst}
 use Rattle.forms.specs.Certificate.{Certificate}
 use Rattle.forms.specs.Words.{LaidOut, Certified}
 use Rattle.forms.specs.Primes.{prime-positive}
-use Rattle.elimination.specs.State.{Array, State}
+use Rattle.basis.specs.State.{Array, State}
 use Rattle.elimination.specs.Reduced.{Reduced}
-use Rattle.analysis.specs.Loading.{loaded, loaded-field}
-use Rattle.analysis.specs.Written.{written, state-small, tables-below, written-certifies}
-use borrow.Author.Needs.{needs}
+use Rattle.matrices.specs.Loading.{loaded, loaded-field}
+use Rattle.analysis.specs.Loading.{loaded-holds}
+use Rattle.payloads.specs.Written.{written, state-small, tables-below, written-certifies}
 use Rattle.analysis.proofs.write.Statement.{statement}
 use Rattle.analysis.proofs.write.Tie as tie
-use Rattle.analysis.proofs.write.Reads as reads
-use Rattle.analysis.proofs.write.Lts as lts
-use Rattle.analysis.proofs.heads.last_rows.Reads as last-rows-reads
-use Rattle.analysis.proofs.heads.order.Reads as order-reads
-use Rattle.analysis.proofs.loading.field_matrix.Reads as field-matrix-reads
-use Rattle.analysis.proofs.payloads.put_records.Reads as put-records-reads
-use Rattle.elimination.proofs.elimination.reduce.Reads as reduce-reads
 
 -- what the elimination and the tables of its blocks come to
 module _ (q : tie.After-last-rows) where
@@ -34,7 +27,7 @@ module _ (q : tie.After-last-rows) where
   reduced = subst (λ (a : Array). Reduced (start .args .p) (start .args .n) a state) (q .before .before .before .before .before .field-matrix .ensures) (q .before .before .before .before .reduce .ensures)
 
   certifies : LaidOut certificate × Certified (start .args .p) (start .args .n) (start .args .matrix .now) certificate
-  certifies = written-certifies (start .args .p) (start .args .n) (start .args .matrix .now) (start .pre .0) state reduced (q .before .before .order .result) (q .last-rows .result) (q .before .before .order .ensures) (q .last-rows .ensures)
+  certifies = written-certifies (start .args .p) (start .args .n) (start .args .matrix .now) (start .pre .0) _ (loaded-holds _ _) state reduced (q .before .before .order .result) (q .last-rows .result) (q .before .before .order .ensures) (q .last-rows .ensures)
 
 field-matrix-requires : tie.Need-field-matrix-requires
 field-matrix-requires c κs = let a = c .before .before in (a .pre .0 .high, a .pre .0 .residues .many)
@@ -56,7 +49,7 @@ last-rows-requires c κs = c .before .before .before .before .before .before .be
 
 put-records-requires : tie.Need-put-records-requires
 put-records-requires c κs =
-    let q = c .before .before in
+    let q = c .before .before .before .before in
     let a = start q in
     (a .pre .1, tables-below (a .args .n) _ _ _ (q .before .before .order .ensures) (q .last-rows .ensures), state-small (a .args .p) (a .args .n) (state q) (prime-positive (a .args .p) (a .pre .0 .prime-p)) (reduced q .fields), certifies q .0)
 
@@ -65,7 +58,7 @@ same-length c = search needs
 
 returns : tie.Need-returns
 returns c =
-    let q = c .before .before .before .before .before in
+    let q = c .before .before .before .before .before .before .before in
     let w = c .before .before .put-records .ensures in
     (w .0, (certificate q, w .1, certifies q .0, certifies q .1))
 

@@ -1,18 +1,14 @@
+-- Each return answers one question, and the questions before it refuse nothing.
 use borrow.Author.Needs.{needs}
 use native.Mathlib.Omega.{arith}
+use Prim.Native.Nat.{ℕ}
 use mathlib.Core.Path.{_≡_, sym, _∙_, ap}
-use Rattle.forms.specs.Answers.{fine}
+use Rattle.forms.specs.Answers.{fine, refuse}
 use Rattle.forms.specs.Reading.{order-and-prime}
 use Rattle.certificate.specs.ReadRecords.{limits-asked}
 use Rattle.analysis.specs.Questions.{order-kept, square-kept, prime-kept, limits-refused, length-refused, entry-refused, room-refused, nothing-refused}
-use borrow.Author.Needs.{needs}
 use Rattle.analysis.proofs.questions.analysis_asked.Statement.{statement}
 use Rattle.analysis.proofs.questions.analysis_asked.Tie as tie
-use Rattle.analysis.proofs.questions.analysis_asked.Reads as reads
-use Rattle.analysis.proofs.questions.analysis_asked.Lts as lts
-use Rattle.analysis.proofs.questions.entries_asked.Reads as entries-asked-reads
-use Rattle.certificate.proofs.limits.order_and_prime.Reads as order-and-prime-reads
-use Rattle.certificate.proofs.records.record_start.Reads as record-start-reads
 
 -- the order and the prime are in their limits
 kept : (c : tie.After-enum-told) → order-and-prime (c .before .before .before .before .args .n) (c .before .before .before .before .args .p) ≡ fine
@@ -70,7 +66,7 @@ returns-4 c =
     let q = c .before .before .before .before in
     let a = c .before .before .before .before .before .before .before .before .before .before in
     let e = sym (q .entries-asked .ensures) ∙ ap limits-asked (c .before .before .enum-told3 .given .1) in
-    rw (c .before .record-start .ensures) (sym (room-refused (a .args .p) (a .args .n) (a .args .matrix .now) (a .args .room) (kept (q .before .before)) (q .before .if1 .left) e (rw (c .before .record-start .ensures) at (c .if2 .taken))))
+    ap (λ (z : ℕ). refuse 5 z) (c .before .record-start .ensures) ∙ sym (room-refused (a .args .p) (a .args .n) (a .args .matrix .now) (a .args .room) (kept (q .before .before)) (q .before .if1 .left) e (rw (c .before .record-start .ensures) at (c .if2 .taken)))
 
 returns-5 : tie.Need-returns-5
 returns-5 c =

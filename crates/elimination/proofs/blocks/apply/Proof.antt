@@ -1,11 +1,13 @@
+-- The row is filled with the entries of b g.
 use borrow.Author.Needs.{needs}
 use Prim.Native.Nat.{_≤_, _-_}
-use mathlib.Core.Path.{_≡_}
+use mathlib.Core.Path.{_≡_, _∙_}
 use mathlib.Core.List.{[]}
 use lib.ListN.{getD}
 use Rattle.matrices.specs.Filling.{filled, fill-start, fill-turn, fill-end}
 use Rattle.matrices.specs.Matrices.{zero-row}
-use Rattle.elimination.specs.Steps.{entry-of}
+use Rattle.basis.specs.Steps.{entry-of, entry-short}
+use Rattle.basis.specs.State.{field-row}
 use Rattle.elimination.proofs.blocks.apply.Statement.{statement}
 use Rattle.elimination.proofs.blocks.apply.Tie as tie
 
@@ -25,7 +27,7 @@ array-copy-out-inner : tie.Need-array-copy-out-inner Inv-loop μ-loop
 array-copy-out-inner c = search needs
 
 inner-requires : tie.Need-inner-requires Inv-loop μ-loop
-inner-requires c κs = search needs
+inner-requires c κs = (search needs, c .before .before .before .pre .2)
 
 array-write-r : tie.Need-array-write-r Inv-loop μ-loop
 array-write-r c = search needs
@@ -37,7 +39,7 @@ loop-less : tie.Need-loop-less Inv-loop μ-loop
 loop-less c = search needs
 
 loop-again : tie.Need-loop-again Inv-loop μ-loop
-loop-again c = (search needs, fill-turn _ _ _ (search needs) (c .before .before .before .loop .inv .1) (c .inner .ensures))
+loop-again c = (search needs, fill-turn _ _ _ (search needs) (c .before .before .before .loop .inv .1) (c .inner .ensures ∙ entry-short (c .before .before .before .before .args .p) (c .before .before .before .before .args .n) (getD (c .before .before .before .before .args .t1) (c .before .before .before .loop .i) []) (c .before .before .before .before .args .g) (search needs) (field-row _ _ (c .before .before .before .before .args .t1) _ (search needs) (c .before .before .before .before .pre .3))))
 
 returns : tie.Need-returns Inv-loop μ-loop
 returns c = fill-end _ _ (c .before .loop .inv .1) (c .before .loop .inv .0) (c .loop-test .left)

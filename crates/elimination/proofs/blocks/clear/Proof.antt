@@ -1,9 +1,10 @@
+-- The loop wipes row after row, from the last on.
 use borrow.Author.Needs.{needs}
 use native.Mathlib.Omega.{arith}
-use Prim.Native.Nat.{_<_, _-_}
+use Prim.Native.Nat.{_<_}
 use mathlib.Core.Path.{_≡_}
 use Rattle.algebra.specs.Modular.{modulo}
-use Rattle.elimination.specs.State.{frame, Fields, given-next}
+use Rattle.basis.specs.State.{frame, Fields, given-next}
 use Rattle.elimination.specs.Settle.{Cleared, clear-start, cleared-headed}
 use Rattle.elimination.specs.Blocking.{clear-next}
 use Rattle.elimination.proofs.blocks.clear.Statement.{statement}

@@ -1,8 +1,9 @@
+-- The loop keeps that the vectors before j are killed, and ends with the first longer block.
 use borrow.Author.Needs.{needs}
 use native.Mathlib.Omega.{arith}
 use Prim.Native.Nat.{_≤_, _-_}
 use Rattle.algebra.specs.Modular.{modulo}
-use Rattle.elimination.specs.State.{frame, Fields, given-next, prime-positive}
+use Rattle.basis.specs.State.{frame, Fields, given-next, prime-positive}
 use Rattle.elimination.specs.Probe.{Probing, probe-start}
 use Rattle.elimination.specs.Blocking.{probe-skips, probe-grows, probe-goes-on, probe-ends}
 use Rattle.elimination.proofs.blocks.probe.Statement.{statement}
@@ -21,7 +22,7 @@ array-copy-out-killed : tie.Need-array-copy-out-killed Inv-loop μ-loop
 array-copy-out-killed c = search needs
 
 killed-requires : tie.Need-killed-requires Inv-loop μ-loop
-killed-requires c κs = (c .before .before .before .pre .0 .order, prime-positive _ (c .before .before .before .pre .0 .prime-p), omega (arith, c .before .before .before .pre .0 .fits), c .before .before .before .pre .1 .some, omega (arith, c .before .before .before .pre .0 .fits, c .before .before .before .pre .1 .fits))
+killed-requires c κs = (c .before .before .before .pre .0 .order, prime-positive _ (c .before .before .before .pre .0 .prime-p), omega (arith, c .before .before .before .pre .0 .fits), c .before .before .before .pre .1 .some, omega (arith, c .before .before .before .pre .0 .fits, c .before .before .before .pre .1 .fits), c .before .before .loop .inv .2 .B)
 
 add-j : tie.Need-add-j Inv-loop μ-loop
 add-j c = omega (arith, c .before .before .before .before .before .pre .0 .fits, c .before .before .before .before .before .pre .0 .order)
@@ -39,7 +40,7 @@ array-copy-out-reach : tie.Need-array-copy-out-reach Inv-loop μ-loop
 array-copy-out-reach c = search needs
 
 reach-requires : tie.Need-reach-requires Inv-loop μ-loop
-reach-requires c κs = (omega arith, c .before .before .before .before .before .before .before .pre .0 .fits, c .before .before .before .before .before .before .before .pre .0 .order)
+reach-requires c κs = (omega arith, omega (arith, c .before .before .before .before .before .before .before .pre .0 .fits, c .before .before .before .before .before .before .before .pre .0 .order))
 
 returns : tie.Need-returns Inv-loop μ-loop
 returns c = (c .before .before .before .join .ensures .0, probe-grows _ _ _ _ _ (c .before .before .before .before .before .before .before .before .before .args .t1) (c .before .before .before .before .before .before .before .before .loop .s) (c .before .before .before .join .result) (given-next (c .before .before .before .before .before .before .before .before .before .pre .0) (c .before .before .before .join .ensures .0)) (c .before .before .before .before .before .before .before .before .loop .inv .0) (search needs) (c .before .before .before .before .before .before .before .before .loop .inv .3) (c .before .before .before .join .ensures .1) _ (c .before .reach .ensures) (c .if2 .taken))

@@ -1,7 +1,7 @@
+-- A longer block ends the round at once; otherwise nothing is left behind the block, and it is probed.
 use borrow.Author.Needs.{needs}
 use native.Mathlib.Omega.{arith}
-use Prim.Native.Nat.{_-_}
-use Rattle.elimination.specs.State.{given-next}
+use Rattle.basis.specs.State.{given-next}
 use Rattle.elimination.specs.Blocking.{round-grows, round-headed, round-flat, round-probes}
 use Rattle.elimination.proofs.blocks.round.Statement.{statement}
 use Rattle.elimination.proofs.blocks.round.Tie as tie
@@ -13,7 +13,7 @@ array-copy-out-reach : tie.Need-array-copy-out-reach
 array-copy-out-reach c = search needs
 
 reach-requires : tie.Need-reach-requires
-reach-requires c κs = (omega (arith, c .before .before .pre .1 .some, c .before .before .pre .1 .fits), c .before .before .pre .0 .fits, c .before .before .pre .0 .order)
+reach-requires c κs = (omega (arith, c .before .before .pre .1 .some, c .before .before .pre .1 .fits), omega (arith, c .before .before .pre .0 .fits, c .before .before .pre .0 .order))
 
 returns : tie.Need-returns
 returns c = (c .before .before .before .settle .ensures .0, round-grows _ _ _ _ (c .before .before .before .before .args .s) (c .before .before .before .settle .result) (given-next (c .before .before .before .before .pre .0) (c .before .before .before .settle .ensures .0)) (c .before .before .before .settle .ensures .1) _ (c .before .reach .ensures) (c .if1 .taken))

@@ -1,3 +1,4 @@
+-- All entries passed are the same.
 use native.Mathlib.Decide.{ℕ-discrete}
 use mathlib.Core.Bool.{true≢false}
 use Prim.Native.Nat.{ℕ, _≤_, _<_, _-_}

@@ -1,8 +1,7 @@
+-- Row 0 has nothing left, or its first entry says which vector goes first.
 use borrow.Author.Needs.{needs}
 use native.Mathlib.Omega.{arith}
-use Prim.Native.Nat.{_-_}
-use Rattle.elimination.specs.State.{given-next}
-use Rattle.elimination.specs.Turns.{turned-fields}
+use Rattle.basis.specs.State.{given-next}
 use Rattle.elimination.specs.Blocking.{settled-here, turned-ready, settled-further}
 use Rattle.elimination.proofs.blocks.settle.Statement.{statement}
 use Rattle.elimination.proofs.blocks.settle.Tie as tie
@@ -29,10 +28,10 @@ rotate-requires : tie.Need-rotate-requires
 rotate-requires c κs = (c .before .before .before .before .pre .0 .order, omega arith, omega (arith, c .before .before .before .before .pre .0 .fits))
 
 chain-requires : tie.Need-chain-requires
-chain-requires c κs = rw (c .rotate .ensures) (
-  given-next (c .before .before .before .before .before .pre .0) (turned-fields _ _ _ _ (omega arith) (omega (arith, c .before .before .before .before .before .pre .0 .fits)) (c .before .before .before .before .clear .result) (c .before .before .before .before .clear .ensures .0)),
+chain-requires c κs = (
+  given-next (c .before .before .before .before .before .pre .0) (c .rotate .ensures .fields _ (c .before .before .before .before .clear .ensures .0)),
   omega arith,
-  turned-ready _ _ _ _ (c .before .before .before .before .before .args .s) (c .before .before .before .before .clear .result) (given-next (c .before .before .before .before .before .pre .0) (c .before .before .before .before .clear .ensures .0)) (c .before .before .before .before .before .pre .1) (c .before .before .before .before .clear .ensures .1) _ (c .before .before .first-nonzero .ensures) (c .before .if1 .left),
+  turned-ready _ _ _ _ (c .before .before .before .before .before .args .s) (c .before .before .before .before .clear .result) (given-next (c .before .before .before .before .before .pre .0) (c .before .before .before .before .clear .ensures .0)) (c .before .before .before .before .before .pre .1) (c .before .before .before .before .clear .ensures .1) _ (c .before .before .first-nonzero .ensures) (c .before .if1 .left) (c .rotate .result) (c .rotate .ensures),
 )
 
 returns-2 : tie.Need-returns-2
@@ -40,8 +39,7 @@ returns-2 c = (
   c .chain .ensures .0,
   (
     _,
-    settled-further _ _ _ _ (c .before .before .before .before .before .before .args .s) (c .before .before .before .before .before .clear .result) (given-next (c .before .before .before .before .before .before .pre .0) (c .before .before .before .before .before .clear .ensures .0)) (c .before .before .before .before .before .before .pre .1) (c .before .before .before .before .before .clear .ensures .1) _ (c .before .before .before .first-nonzero .ensures) (c .before .before .if1 .left) _ (c .chain .result)
-        (rw (c .before .rotate .ensures) at (c .chain .ensures .1 .1)),
+    settled-further _ _ _ _ (c .before .before .before .before .before .before .args .s) (c .before .before .before .before .before .clear .result) (given-next (c .before .before .before .before .before .before .pre .0) (c .before .before .before .before .before .clear .ensures .0)) (c .before .before .before .before .before .before .pre .1) (c .before .before .before .before .before .clear .ensures .1) _ (c .before .before .before .first-nonzero .ensures) (c .before .before .if1 .left) (c .before .rotate .result) (c .before .rotate .ensures) _ (c .chain .result) (c .chain .ensures .1 .1),
   ),
 )
 

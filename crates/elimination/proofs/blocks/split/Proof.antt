@@ -1,9 +1,10 @@
+-- Each round but the last makes a longer block, so that the rounds end.
 use borrow.Author.Needs.{needs}
 use native.Mathlib.Omega.{arith}
 use Prim.Native.Nat.{_-_}
 use Rattle.algebra.specs.Modular.{modulo}
-use Rattle.elimination.specs.State.{frame, Fields, given-next}
-use Rattle.elimination.specs.Frame.{Change, change-none, change-then}
+use Rattle.basis.specs.State.{frame, Fields, given-next}
+use Rattle.basis.specs.Frame.{Change, change-none, change-then}
 use Rattle.elimination.specs.Settle.{Headed}
 use Rattle.elimination.specs.Blocking.{chained-reach, split-ends, split-change, split-headed}
 use Rattle.elimination.proofs.blocks.split.Statement.{statement}
@@ -22,7 +23,7 @@ array-copy-out-reach : tie.Need-array-copy-out-reach Inv-loop μ-loop
 array-copy-out-reach c = search needs
 
 reach-requires : tie.Need-reach-requires Inv-loop μ-loop
-reach-requires c κs = (c .before .before .pre .1, c .before .before .pre .0 .fits, c .before .before .pre .0 .order)
+reach-requires c κs = (c .before .before .pre .1, omega (arith, c .before .before .pre .0 .fits, c .before .before .pre .0 .order))
 
 loop-holds : tie.Need-loop-holds Inv-loop μ-loop
 loop-holds c = (c .before .before .chain .ensures .0, change-none _ _ _ _, chained-reach _ _ _ (c .before .before .before .args .s) (c .before .before .chain .result) (given-next (c .before .before .before .pre .0) (c .before .before .chain .ensures .0)) (c .before .before .chain .ensures .1) _ (c .reach .ensures))
@@ -34,7 +35,7 @@ array-copy-out-reach-2 : tie.Need-array-copy-out-reach-2 Inv-loop μ-loop
 array-copy-out-reach-2 c = search needs
 
 reach-requires-2 : tie.Need-reach-requires-2 Inv-loop μ-loop
-reach-requires-2 c κs = (c .before .before .before .before .before .before .pre .1, c .before .before .before .before .before .before .pre .0 .fits, c .before .before .before .before .before .before .pre .0 .order)
+reach-requires-2 c κs = (c .before .before .before .before .before .before .pre .1, omega (arith, c .before .before .before .before .before .before .pre .0 .fits, c .before .before .before .before .before .before .pre .0 .order))
 
 returns : tie.Need-returns Inv-loop μ-loop
 returns c = (c .before .before .before .round .ensures .0, split-ends _ _ _ _ (c .before .before .before .before .before .before .before .before .args .s) (c .before .before .before .before .loop .c) (c .before .before .before .round .result) (given-next (c .before .before .before .before .before .before .before .before .pre .0) (c .before .before .before .round .ensures .0)) (change-then _ _ _ (c .before .before .before .before .before .before .before .chain .ensures .1 .1 .passed .change) (c .before .before .before .before .loop .inv .1)) (c .before .before .before .round .ensures .1) _ (c .before .reach2 .ensures) (c .if1 .taken))

@@ -1,3 +1,4 @@
+-- The row is filled with zeros up to m and with the opposites from there on.
 use Prim.Native.Nat.{_≤_, _-_, _%_}
 use mathlib.Core.Path.{_≡_}
 use lib.ListN.{getD}

@@ -1,4 +1,4 @@
-use Prim.Native.Nat.{_-_}
+-- Each branch is a case of the choice at m.
 use mathlib.Core.Path.{sym}
 use Rattle.algebra.specs.Choice.{below-inside, below-outside}
 use borrow.Author.Needs.{needs}

@@ -1,9 +1,9 @@
+-- Nothing is to be done, or multiples of e_a are taken from the vectors behind the block.
 use borrow.Author.Needs.{needs}
 use native.Mathlib.Omega.{arith}
-use Prim.Native.Nat.{_-_}
 use mathlib.Core.List.{[]}
 use lib.ListN.{getD}
-use Rattle.elimination.specs.State.{prime-positive, field-row}
+use Rattle.basis.specs.State.{prime-positive, field-row}
 use Rattle.elimination.specs.Blocking.{wiped-already, wiped-now}
 use Rattle.elimination.proofs.blocks.wipe.Statement.{statement}
 use Rattle.elimination.proofs.blocks.wipe.Tie as tie
@@ -29,14 +29,11 @@ returns c = (c .before .before .before .pre .0 .fields, wiped-already _ _ _ _ _ 
 tail-requires : tie.Need-tail-requires
 tail-requires c κs = (c .before .before .before .pre .0 .order, c .before .before .before .pre .0 .fits, field-row _ _ (getD (c .before .before .before .args .t1) 0 []) _ (omega (arith, c .before .before .before .pre .0 .fits, c .before .before .before .pre .1 .fits)) (c .before .before .before .pre .0 .fields .B))
 
-sub-plus-row : tie.Need-sub-plus-row
-sub-plus-row c = prime-positive _ (c .before .before .before .before .pre .0 .prime-p)
+sub-with-entry : tie.Need-sub-with-entry
+sub-with-entry c = prime-positive _ (c .before .before .before .before .pre .0 .prime-p)
 
-unit-row-requires : tie.Need-unit-row-requires
-unit-row-requires c κs = omega (arith, c .before .before .before .before .pre .0 .fits, c .before .before .before .before .pre .0 .order, c .before .before .before .before .pre .1 .fits)
-
-plus-row-requires : tie.Need-plus-row-requires
-plus-row-requires c κs = (c .before .before .before .before .before .pre .0 .order, prime-positive _ (c .before .before .before .before .before .pre .0 .prime-p))
+with-entry-requires : tie.Need-with-entry-requires
+with-entry-requires c κs = omega (arith, c .before .before .before .before .pre .0 .fits, c .before .before .before .before .pre .0 .order, c .before .before .before .before .pre .1 .fits)
 
 array-copy-out-plus-outer : tie.Need-array-copy-out-plus-outer
 array-copy-out-plus-outer c = search needs
@@ -45,16 +42,16 @@ array-copy-out-column : tie.Need-array-copy-out-column
 array-copy-out-column c = search needs
 
 column-requires : tie.Need-column-requires
-column-requires c κs = (c .before .before .before .before .before .before .before .before .pre .0 .order, omega (arith, c .before .before .before .before .before .before .before .before .pre .0 .fits, c .before .before .before .before .before .before .before .before .pre .0 .order, c .before .before .before .before .before .before .before .before .pre .1 .fits))
+column-requires c κs = (c .before .before .before .before .before .before .before .pre .0 .order, omega (arith, c .before .before .before .before .before .before .before .pre .0 .fits, c .before .before .before .before .before .before .before .pre .0 .order, c .before .before .before .before .before .before .before .pre .1 .fits))
 
 plus-outer-requires : tie.Need-plus-outer-requires
-plus-outer-requires c κs = (c .before .before .before .before .before .before .before .before .before .pre .0 .order, prime-positive _ (c .before .before .before .before .before .before .before .before .before .pre .0 .prime-p), c .before .before .before .before .before .before .before .before .before .pre .0 .fields .B)
+plus-outer-requires c κs = (c .before .before .before .before .before .before .before .before .pre .0 .order, prime-positive _ (c .before .before .before .before .before .before .before .before .pre .0 .prime-p), c .before .before .before .before .before .before .before .before .pre .0 .fields .B)
 
-product-row-requires : tie.Need-product-row-requires
-product-row-requires c κs = (c .before .before .before .before .before .before .before .before .before .before .pre .0 .order, prime-positive _ (c .before .before .before .before .before .before .before .before .before .before .pre .0 .prime-p))
+combination-requires : tie.Need-combination-requires
+combination-requires c κs = (c .before .before .before .before .before .before .before .before .before .pre .0 .order, prime-positive _ (c .before .before .before .before .before .before .before .before .before .pre .0 .prime-p))
 
 plus-outer-requires-2 : tie.Need-plus-outer-requires-2
-plus-outer-requires-2 c κs = (c .before .before .before .before .before .before .before .before .before .before .before .pre .0 .order, prime-positive _ (c .before .before .before .before .before .before .before .before .before .before .before .pre .0 .prime-p), c .before .plus-outer .ensures .field)
+plus-outer-requires-2 c κs = (c .before .before .before .before .before .before .before .before .before .before .pre .0 .order, prime-positive _ (c .before .before .before .before .before .before .before .before .before .before .pre .0 .prime-p), c .before .plus-outer .ensures .field)
 
 array-copy-out-plus-outer-2 : tie.Need-array-copy-out-plus-outer-2
 array-copy-out-plus-outer-2 c = search needs
@@ -63,29 +60,29 @@ array-copy-out-column-2 : tie.Need-array-copy-out-column-2
 array-copy-out-column-2 c = search needs
 
 column-requires-2 : tie.Need-column-requires-2
-column-requires-2 c κs = (c .before .before .before .before .before .before .before .before .before .before .before .before .before .before .pre .0 .order, omega (arith, c .before .before .before .before .before .before .before .before .before .before .before .before .before .before .pre .0 .fits, c .before .before .before .before .before .before .before .before .before .before .before .before .before .before .pre .0 .order, c .before .before .before .before .before .before .before .before .before .before .before .before .before .before .pre .1 .fits))
+column-requires-2 c κs = (c .before .before .before .before .before .before .before .before .before .before .before .before .before .pre .0 .order, omega (arith, c .before .before .before .before .before .before .before .before .before .before .before .before .before .pre .0 .fits, c .before .before .before .before .before .before .before .before .before .before .before .before .before .pre .0 .order, c .before .before .before .before .before .before .before .before .before .before .before .before .before .pre .1 .fits))
 
 plus-outer-requires-3 : tie.Need-plus-outer-requires-3
-plus-outer-requires-3 c κs = (c .before .before .before .before .before .before .before .before .before .before .before .before .before .before .before .pre .0 .order, prime-positive _ (c .before .before .before .before .before .before .before .before .before .before .before .before .before .before .before .pre .0 .prime-p), c .before .before .before .before .before .before .before .before .before .before .before .before .before .before .before .pre .0 .fields .T)
+plus-outer-requires-3 c κs = (c .before .before .before .before .before .before .before .before .before .before .before .before .before .before .pre .0 .order, prime-positive _ (c .before .before .before .before .before .before .before .before .before .before .before .before .before .before .pre .0 .prime-p), c .before .before .before .before .before .before .before .before .before .before .before .before .before .before .pre .0 .fields .T)
 
 array-copy-out-plus-outer-3 : tie.Need-array-copy-out-plus-outer-3
 array-copy-out-plus-outer-3 c = search needs
 
-array-copy-out-product-row : tie.Need-array-copy-out-product-row
-array-copy-out-product-row c = search needs
+array-copy-out-combination : tie.Need-array-copy-out-combination
+array-copy-out-combination c = search needs
 
-product-row-requires-2 : tie.Need-product-row-requires-2
-product-row-requires-2 c κs = (c .before .before .before .before .before .before .before .before .before .before .before .before .before .before .before .before .before .before .pre .0 .order, prime-positive _ (c .before .before .before .before .before .before .before .before .before .before .before .before .before .before .before .before .before .before .pre .0 .prime-p))
+combination-requires-2 : tie.Need-combination-requires-2
+combination-requires-2 c κs = (c .before .before .before .before .before .before .before .before .before .before .before .before .before .before .before .before .before .pre .0 .order, prime-positive _ (c .before .before .before .before .before .before .before .before .before .before .before .before .before .before .before .before .before .pre .0 .prime-p))
 
 plus-outer-requires-4 : tie.Need-plus-outer-requires-4
-plus-outer-requires-4 c κs = (c .before .before .before .before .before .before .before .before .before .before .before .before .before .before .before .before .before .before .before .pre .0 .order, prime-positive _ (c .before .before .before .before .before .before .before .before .before .before .before .before .before .before .before .before .before .before .before .pre .0 .prime-p), c .before .before .before .before .before .before .before .before .before .before .before .before .before .before .before .before .before .before .before .pre .0 .fields .I)
+plus-outer-requires-4 c κs = (c .before .before .before .before .before .before .before .before .before .before .before .before .before .before .before .before .before .before .pre .0 .order, prime-positive _ (c .before .before .before .before .before .before .before .before .before .before .before .before .before .before .before .before .before .before .pre .0 .prime-p), c .before .before .before .before .before .before .before .before .before .before .before .before .before .before .before .before .before .before .pre .0 .fields .I)
 
 returns-2 : tie.Need-returns-2
 returns-2 c = (
   record { B = c .before .before .before .before .before .before .before .before .plus-outer2 .ensures .field; T = c .before .before .before .before .plus-outer3 .ensures .field; I = c .plus-outer4 .ensures .field },
-  wiped-now _ _ _ _ _ (c .before .before .before .before .before .before .before .before .before .before .before .before .before .before .before .before .before .before .before .before .args .t1) (c .before .before .before .before .before .before .before .before .before .before .before .before .before .before .before .before .before .before .before .before .pre .0) (c .before .before .before .before .before .before .before .before .before .before .before .before .before .before .before .before .before .before .before .before .pre .1) (c .before .before .before .before .before .before .before .before .before .before .before .before .before .before .before .before .before .before .before .before .pre .2) _ _ _ _ _ _ _ _ _ _ (c .before .before .before .before .before .before .before .before .before .before .before .before .before .before .before .before .tail .ensures) (rw (c .before .before .before .before .before .before .before .before .before .before .before .before .before .before .before .unit-row .ensures) at (c .before .before .before .before .before .before .before .before .before .before .before .before .before .before .plus-row .ensures)) (c .before .before .before .before .before .before .before .before .before .before .before .column .ensures) (c .before .before .before .before .before .column2 .ensures)
-      (c .before .before .before .before .before .before .before .before .before .product-row .ensures) (c .before .product-row2 .ensures) (c .before .before .before .before .before .before .before .before .before .before .plus-outer .ensures) (c .before .before .before .before .before .before .before .before .plus-outer2 .ensures) (c .before .before .before .before .plus-outer3 .ensures) (c .plus-outer4 .ensures),
+  wiped-now _ _ _ _ _ (c .before .before .before .before .before .before .before .before .before .before .before .before .before .before .before .before .before .before .before .args .t1) (c .before .before .before .before .before .before .before .before .before .before .before .before .before .before .before .before .before .before .before .pre .0) (c .before .before .before .before .before .before .before .before .before .before .before .before .before .before .before .before .before .before .before .pre .1) (c .before .before .before .before .before .before .before .before .before .before .before .before .before .before .before .before .before .before .before .pre .2) _ _ _ _ _ _ _ _ _ _ (c .before .before .before .before .before .before .before .before .before .before .before .before .before .before .before .tail .ensures) (c .before .before .before .before .before .before .before .before .before .before .before .before .before .before .with-entry .ensures) (c .before .before .before .before .before .before .before .before .before .before .before .column .ensures) (c .before .before .before .before .before .column2 .ensures)
+      (c .before .before .before .before .before .before .before .before .before .combination .ensures) (c .before .combination2 .ensures) (c .before .before .before .before .before .before .before .before .before .before .plus-outer .ensures) (c .before .before .before .before .before .before .before .before .plus-outer2 .ensures) (c .before .before .before .before .plus-outer3 .ensures) (c .plus-outer4 .ensures),
 )
 
 pub wipe-spec : {M : Type 1} → statement M
-wipe-spec = tie.close (tie.spec add-x mul-x index-1-x index-2-x first-nonzero-requires returns tail-requires sub-plus-row unit-row-requires plus-row-requires array-copy-out-plus-outer array-copy-out-column column-requires plus-outer-requires product-row-requires plus-outer-requires-2 array-copy-out-plus-outer-2 array-copy-out-column-2 column-requires-2 plus-outer-requires-3 array-copy-out-plus-outer-3 array-copy-out-product-row product-row-requires-2 plus-outer-requires-4 returns-2)
+wipe-spec = tie.close (tie.spec add-x mul-x index-1-x index-2-x first-nonzero-requires returns tail-requires sub-with-entry with-entry-requires array-copy-out-plus-outer array-copy-out-column column-requires plus-outer-requires combination-requires plus-outer-requires-2 array-copy-out-plus-outer-2 array-copy-out-column-2 column-requires-2 plus-outer-requires-3 array-copy-out-plus-outer-3 array-copy-out-combination combination-requires-2 plus-outer-requires-4 returns-2)

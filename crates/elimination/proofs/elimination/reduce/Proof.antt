@@ -1,15 +1,15 @@
+-- The loop keeps the stage: the window [0,k), and the blocks behind it.
 use borrow.Author.Needs.{needs}
 use native.Mathlib.Omega.{arith}
-use Prim.Native.Nat.{_≤_, _-_}
+use Prim.Native.Nat.{_≤_}
 use mathlib.Core.Path.{_≡_, refl}
 use mathlib.Core.List.{[]}
-use lib.ListN.{getD, length}
+use lib.ListN.{getD}
 use Rattle.algebra.specs.Modular.{modulo}
-use Rattle.elimination.specs.State.{frame, Fields}
+use Rattle.basis.specs.State.{frame, Fields}
 use Rattle.matrices.specs.Matrices.{matrix, matrix-within}
 use Rattle.forms.specs.Primes.{prime-means}
 use Rattle.elimination.specs.Form.{Stage, stage-start}
-use Rattle.elimination.specs.Turns.{turned-fields}
 use Rattle.elimination.specs.Probe.{Split}
 use Rattle.elimination.specs.Blocking.{split-reach, stage-next}
 use Rattle.elimination.specs.Reduced.{reduced}
@@ -44,7 +44,7 @@ array-copy-out-reach : tie.Need-array-copy-out-reach Inv-loop μ-loop
 array-copy-out-reach c = search needs
 
 reach-requires : tie.Need-reach-requires Inv-loop μ-loop
-reach-requires c κs = (search needs, c .before .before .before .loop .inv .0, c .before .before .before .before .before .pre .0)
+reach-requires c κs = search needs
 
 rotate-requires : tie.Need-rotate-requires Inv-loop μ-loop
 rotate-requires c κs = (c .before .before .before .before .before .before .pre .0, omega (arith, found c .headed .fits), omega (arith, found c .headed .fits, c .before .before .before .before .loop .inv .0))
@@ -58,8 +58,8 @@ loop-less c = omega (arith, found (c .before) .headed .fits, found (c .before) .
 loop-again : tie.Need-loop-again Inv-loop μ-loop
 loop-again c = (
   omega (arith, c .before .before .before .before .before .loop .inv .0),
-  rw (c .rotate .ensures) (turned-fields _ _ _ _ (found (c .before) .headed .fits) (c .before .before .before .before .before .loop .inv .0) (c .before .before .before .split .result) (c .before .before .before .split .ensures .0)),
-  rw (c .rotate .ensures) (stage-next _ _ _ _ _ (c .before .before .before .before .before .loop .s) (c .before .before .before .split .result) (c .before .before .before .before .before .loop .inv .0) (c .before .before .before .before .before .loop .inv .2) (found (c .before))),
+  c .rotate .ensures .fields _ (c .before .before .before .split .ensures .0),
+  stage-next _ _ _ _ _ (c .before .before .before .before .before .loop .s) (c .before .before .before .split .result) (c .rotate .result) (c .before .before .before .before .before .loop .inv .0) (c .before .before .before .before .before .loop .inv .2) (found (c .before)) (c .rotate .ensures),
 )
 
 returns : tie.Need-returns Inv-loop μ-loop

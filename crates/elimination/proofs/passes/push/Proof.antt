@@ -1,8 +1,8 @@
+-- Column j has a pivot in row j + 1, so that it can replace e_(j+1).
 use borrow.Author.Needs.{needs}
 use native.Mathlib.Omega.{arith}
-use Prim.Native.Nat.{_-_}
-use Rattle.elimination.specs.State.{given-whole}
-use Rattle.elimination.specs.Searches.{column-of-row}
+use Rattle.basis.specs.State.{given-whole}
+use Rattle.basis.specs.Searches.{column-of-row}
 use Rattle.elimination.specs.Passing.{push-some, push-nonzero}
 use Rattle.elimination.proofs.passes.push.Statement.{statement}
 use Rattle.elimination.proofs.passes.push.Tie as tie

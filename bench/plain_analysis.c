@@ -1,0 +1,369 @@
+/* The analysis in plain C, as crates/elimination and crates/analysis do it. */
+#include "plain.h"
+#include <string.h>
+
+/* B, T and the inverse of T, with A T = T B. */
+typedef struct {
+    Mat form, basis, inverse;
+} State;
+
+/* The sizes that every step needs, and 2^32 / p rounded up. */
+typedef struct {
+    size_t n;
+    uint8_t p;
+    uint64_t factor;
+} Field;
+
+/* x % p for x below 2^24. */
+static uint8_t remainder_of(uint32_t x, const Field *f) {
+    uint64_t quotient = (x * f->factor) >> 32;
+    return (uint8_t)(x - quotient * f->p);
+}
+
+static uint8_t inner(const Row x, const Row y, const Field *f) {
+    uint32_t sum = 0;
+    for (size_t k = 0; k < f->n; k++) sum += (uint32_t)x[k] * y[k];
+    return remainder_of(sum, f);
+}
+
+/* x += k y */
+static void add_multiple(Row x, uint8_t k, const Row y, const Field *f) {
+    for (size_t j = 0; j < f->n; j++) x[j] = remainder_of(x[j] + (uint32_t)k * y[j], f);
+}
+
+/* m += c z^T */
+static void add_outer(Mat m, const Row c, const Row z, const Field *f) {
+    for (size_t i = 0; i < f->n; i++)
+        if (c[i] != 0) add_multiple(m[i], c[i], z, f);
+}
+
+/* m w for column `at`. */
+static void set_column(Mat m, size_t at, const Row w, const Field *f) {
+    for (size_t i = 0; i < f->n; i++) m[i][at] = inner(m[i], w, f);
+}
+
+static void add_outer_of_row(Mat m, const Row c, size_t at, const Field *f) {
+    Row z;
+    memcpy(z, m[at], ORDER);
+    add_outer(m, c, z, f);
+}
+
+/* The basis vector e_at is replaced by w. */
+static void replace(State *s, size_t at, const Row w, const Field *f) {
+    uint8_t d = plain_reciprocal(w[at], f->p);
+    Row c = {0}, e = {0};
+    e[at] = 1;
+    add_multiple(c, (uint8_t)(f->p - d), w, f);
+    add_multiple(c, d, e, f);
+    set_column(s->form, at, w, f);
+    add_outer_of_row(s->form, c, at, f);
+    set_column(s->basis, at, w, f);
+    add_outer_of_row(s->inverse, c, at, f);
+}
+
+static void column(Row out, const Mat b, size_t j, size_t n) {
+    memset(out, 0, ORDER);
+    for (size_t i = 0; i < n; i++) out[i] = b[i][j];
+}
+
+static size_t first_nonzero(const Row x, size_t from, size_t k) {
+    for (size_t i = from; i < k; i++)
+        if (x[i] != 0) return i;
+    return k;
+}
+
+static size_t first_pivot(const Mat b, size_t j, size_t k, size_t n) {
+    Row x;
+    column(x, b, j, n);
+    return first_nonzero(x, j + 1, k);
+}
+
+static size_t turned(size_t i, size_t m, size_t k) {
+    if (i < k - m) return i + m;
+    if (i < k) return i - (k - m);
+    return i;
+}
+
+static void turn_columns(Mat x, size_t m, size_t k, size_t n) {
+    for (size_t i = 0; i < n; i++) {
+        Row r;
+        memcpy(r, x[i], ORDER);
+        for (size_t j = 0; j < n; j++) x[i][j] = r[turned(j, m, k)];
+    }
+}
+
+static void turn_rows(Mat x, size_t m, size_t k, size_t n) {
+    Mat r;
+    memcpy(r, x, sizeof r);
+    for (size_t i = 0; i < n; i++) memcpy(x[i], r[turned(i, m, k)], ORDER);
+}
+
+/* The first m basis vectors of [0,k) go behind the others. */
+static void rotate(State *s, size_t m, size_t k, size_t n) {
+    turn_columns(s->form, m, k, n);
+    turn_rows(s->form, m, k, n);
+    turn_columns(s->basis, m, k, n);
+    turn_rows(s->inverse, m, k, n);
+}
+
+/* The first pivot of column j, at row q, comes to row j + 1. */
+static void pull(State *s, size_t j, size_t q, const Field *f) {
+    if (q == j + 1) return;
+    Row w = {0};
+    w[q] = 1;
+    w[j + 1] = (uint8_t)(f->p - 1);
+    replace(s, q, w, f);
+}
+
+/* Column j takes the place of e_(j+1), from column 0 on, as far as there are pivots. */
+static void chain(State *s, size_t k, const Field *f) {
+    for (size_t j = 0;; j++) {
+        size_t q = first_pivot(s->form, j, k, f->n);
+        if (k <= q) return;
+        pull(s, j, q, f);
+        Row w;
+        column(w, s->form, j, f->n);
+        replace(s, j + 1, w, f);
+    }
+}
+
+/* How long the block at the head of the window is. */
+static size_t reach(const Mat b, size_t k, size_t n) {
+    for (size_t j = 0; j + 1 < k; j++)
+        if (k <= first_pivot(b, j, k, n)) return j + 1;
+    return k;
+}
+
+/* Row a + 1 is wiped from column m on, by multiples of e_a. */
+static void wipe(State *s, size_t a, size_t m, size_t k, const Field *f) {
+    const uint8_t *x = s->form[a + 1];
+    if (k <= first_nonzero(x, m, k)) return;
+    Row v = {0}, u = {0}, c, z;
+    for (size_t j = m; j < k; j++) v[j] = (uint8_t)((f->p - x[j]) % f->p);
+    u[a] = (uint8_t)(f->p - 1);
+    column(c, s->form, a, f->n);
+    add_outer(s->form, c, v, f);
+    product_row(z, v, s->form, f->n, f->p);
+    add_outer(s->form, u, z, f);
+    column(c, s->basis, a, f->n);
+    add_outer(s->basis, c, v, f);
+    product_row(z, v, s->inverse, f->n, f->p);
+    add_outer(s->inverse, u, z, f);
+}
+
+/* Nothing is left behind the block, or a longer one is made. */
+static void settle(State *s, size_t m, size_t k, const Field *f) {
+    for (size_t r = m - 1; 0 < r; r--) wipe(s, r - 1, m, k, f);
+    size_t j = first_nonzero(s->form[0], m, k);
+    if (k <= j) return;
+    rotate(s, j, j + 1, f->n);
+    chain(s, k, f);
+}
+
+static void apply(Row out, const Mat b, const Row g, const Field *f) {
+    for (size_t i = 0; i < f->n; i++) out[i] = inner(b[i], g, f);
+}
+
+/* Whether the polynomial of the block of m kills e_j, tried by powers of b. */
+static int killed(const Mat b, size_t j, size_t m, const Field *f) {
+    Row g = {0}, v = {0}, x = {0};
+    g[j] = 1;
+    for (size_t e = 0; e < m; e++) {
+        add_multiple(v, b[e][m - 1], g, f);
+        apply(x, b, g, f);
+        memcpy(g, x, ORDER);
+    }
+    return memcmp(g, v, f->n) == 0;
+}
+
+/* Nothing is left behind the block: a longer one is made, or the block's polynomial kills the window. */
+static void probe(State *s, size_t m, size_t k, const Field *f) {
+    for (size_t j = m; j < k; j++) {
+        if (killed(s->form, j, m, f)) continue;
+        Row w = {0};
+        w[0] = w[j] = 1;
+        replace(s, 0, w, f);
+        chain(s, k, f);
+        if (m < reach(s->form, k, f->n)) return;
+    }
+}
+
+/* The window becomes a block whose polynomial kills all of it, and the rest. */
+static void split(State *s, size_t k, const Field *f) {
+    chain(s, k, f);
+    size_t m = reach(s->form, k, f->n);
+    for (;;) {
+        settle(s, m, k, f);
+        if (reach(s->form, k, f->n) <= m) probe(s, m, k, f);
+        size_t h = reach(s->form, k, f->n);
+        if (h <= m) return;
+        m = h;
+    }
+}
+
+/* F, T and the inverse of T, from the matrix's bytes. */
+static void reduce(State *s, const uint8_t *matrix, const Field *f) {
+    memset(s, 0, sizeof *s);
+    for (size_t i = 0; i < f->n; i++) {
+        memcpy(s->form[i], matrix + i * f->n, f->n);
+        s->basis[i][i] = s->inverse[i][i] = 1;
+    }
+    for (size_t k = f->n; 0 < k;) {
+        split(s, k, f);
+        size_t m = reach(s->form, k, f->n);
+        rotate(s, m, k, f->n);
+        k -= m;
+    }
+}
+
+/* What the closed forms are read off: F, T and its inverse, the row of F for each row of D, the last row of each row's block. */
+typedef struct {
+    State s;
+    Row from, last;
+    Field f;
+} Forms;
+
+static int is_head(const Mat form, size_t i) { return i == 0 || form[i][i - 1] == 0; }
+
+static void find_last_rows(Forms *x) {
+    uint8_t next = 0;
+    for (size_t i = x->f.n; 0 < i--;) {
+        if (x->f.n <= i + 1 || is_head(x->s.form, i + 1)) next = (uint8_t)i;
+        x->last[i] = next;
+    }
+}
+
+/* First the rows that begin no block, then the others. */
+static void find_order(Forms *x) {
+    size_t ones = 0, passed = 0;
+    for (size_t i = 0; i < x->f.n; i++) ones += !is_head(x->s.form, i);
+    for (size_t i = 0; i < x->f.n; i++) {
+        int head = is_head(x->s.form, i);
+        x->from[head ? ones + (i - passed) : passed] = (uint8_t)i;
+        passed += !head;
+    }
+}
+
+static uint8_t opposite(uint8_t x, uint8_t p) { return x == 0 ? 0 : (uint8_t)(p - x); }
+
+/* The polynomial of the block that ends at row `end`, with its constant term at j = the block's first row. */
+static uint8_t block_coefficient(const Forms *x, size_t end, size_t j) {
+    if (j <= end) return opposite(x->s.form[j][end], x->f.p);
+    return j == end + 1;
+}
+
+static uint8_t d_coefficient(const Forms *x, size_t i, size_t end, size_t k) {
+    if (is_head(x->s.form, i)) return block_coefficient(x, end, i + k);
+    return k == 0;
+}
+
+static uint8_t p_coefficient(const Forms *x, size_t end, size_t i, size_t c, size_t k) {
+    return i + k <= end ? x->s.inverse[i + k][c] : 0;
+}
+
+static uint8_t pi_coefficient(const Forms *x, size_t r, size_t i, size_t k) {
+    if (k == 0) return x->s.basis[r][i];
+    if (k != 1 || is_head(x->s.form, i)) return 0;
+    return opposite(x->s.basis[r][i - 1], x->f.p);
+}
+
+/* Row r of T times the polynomial of the block of row i, from coefficient k + 1 on. */
+static uint8_t head_sum(const Forms *x, size_t end, size_t r, size_t i, size_t k) {
+    uint32_t sum = 0;
+    for (size_t s = 0; i + s <= end; s++) sum += (uint32_t)x->s.basis[r][i + s] * block_coefficient(x, end, i + s + 1 + k);
+    return (uint8_t)(sum % x->f.p);
+}
+
+static uint8_t q_coefficient(const Forms *x, size_t end, size_t r, size_t i, size_t k) {
+    if (is_head(x->s.form, i)) return head_sum(x, end, r, i, k);
+    return k == 0 ? opposite(x->s.basis[r][i - 1], x->f.p) : 0;
+}
+
+static uint8_t qi_coefficient(const Forms *x, size_t end, size_t i, size_t c, size_t k) {
+    uint8_t last = x->s.inverse[end][c];
+    if (is_head(x->s.form, i)) return k == 0 ? last : 0;
+    uint8_t a = block_coefficient(x, end, i + k);
+    if (k == 0) return plus_multiple((uint8_t)(x->f.p - x->s.inverse[i - 1][c]), a, last, x->f.p);
+    return plus_multiple(0, a, last, x->f.p);
+}
+
+/* Coefficient k of the entry (r, c) of P, its inverse, Q or its inverse: records 3 to 6. */
+static uint8_t closed_coefficient(const Forms *x, size_t record, size_t i, size_t end, size_t r, size_t c, size_t k) {
+    if (record == 3) return p_coefficient(x, end, i, c, k);
+    if (record == 4) return pi_coefficient(x, r, i, k);
+    if (record == 5) return q_coefficient(x, end, r, i, k);
+    return qi_coefficient(x, end, i, c, k);
+}
+
+static uint8_t *put_closed_entry(uint8_t *out, const Forms *x, size_t record, size_t r, size_t c) {
+    size_t i = x->from[record == 3 || record == 6 ? r : c], end = x->last[i];
+    for (size_t k = 0; k < x->f.n; k++) out[k] = closed_coefficient(x, record, i, end, r, c, k);
+    return out + x->f.n;
+}
+
+static uint8_t *put_polynomials(uint8_t *out, const Forms *x, size_t record) {
+    for (size_t r = 0; r < x->f.n; r++)
+        for (size_t c = 0; c < x->f.n; c++) out = put_closed_entry(out, x, record, r, c);
+    return out;
+}
+
+static uint8_t *put_diagonal(uint8_t *out, const Forms *x) {
+    for (size_t b = 0; b < x->f.n; b++) {
+        size_t i = x->from[b], end = x->last[i];
+        for (size_t k = 0; k <= x->f.n; k++) *out++ = d_coefficient(x, i, end, k);
+    }
+    return out;
+}
+
+static uint8_t *put_matrix(uint8_t *out, const Mat m, size_t n) {
+    for (size_t i = 0; i < n; i++, out += n) memcpy(out, m[i], n);
+    return out;
+}
+
+static uint8_t *put_payload(uint8_t *out, size_t record, const Forms *x, const uint8_t *matrix) {
+    const Row *fields[3] = {x->s.form, x->s.basis, x->s.inverse};
+    size_t square = x->f.n * x->f.n;
+    if (record == 0) {
+        out[0] = x->f.p;
+        out[1] = (uint8_t)x->f.n;
+        return out + 2;
+    }
+    if (record == 1) return (uint8_t *)memcpy(out, matrix, square) + square;
+    if (record == 2) return put_diagonal(out, x);
+    if (record < 7) return put_polynomials(out, x, record);
+    return put_matrix(out, fields[record - 7], x->f.n);
+}
+
+static uint8_t *put_head(uint8_t *out, size_t record, size_t size) {
+    out[0] = plain_marks[2 * record];
+    out[1] = plain_marks[2 * record + 1];
+    out[2] = (uint8_t)(size % 256);
+    out[3] = (uint8_t)(size / 256);
+    return out + 4;
+}
+
+/* What is refused, in document 01's order. */
+static Answer asked(uint64_t p, uint64_t n, const uint8_t *matrix, size_t matrix_length, size_t room) {
+    Answer limits = plain_limits(n, p);
+    if (limits.number != 0) return limits;
+    if (matrix_length != n * n) return (Answer){3, matrix_length};
+    for (size_t i = 0; i < matrix_length; i++)
+        if (p <= matrix[i]) return (Answer){4, i};
+    size_t needed = record_start(n, RECORDS);
+    if (room < needed) return (Answer){5, needed};
+    return (Answer){0, needed};
+}
+
+Answer plain_analysis(uint64_t p, uint64_t n, const uint8_t *matrix, size_t matrix_length, uint8_t *out, size_t out_length) {
+    Answer answer = asked(p, n, matrix, matrix_length, out_length);
+    if (answer.number != 0) return answer;
+    Forms x = {.f = {.n = n, .p = (uint8_t)p, .factor = UINT32_MAX / (uint32_t)p + 1ull}};
+    reduce(&x.s, matrix, &x.f);
+    find_order(&x);
+    find_last_rows(&x);
+    for (size_t k = 0; k < RECORDS; k++) {
+        out = put_head(out, k, payload_size(n, k));
+        out = put_payload(out, k, &x, matrix);
+    }
+    return answer;
+}

@@ -1,0 +1,13 @@
+-- The definitions and laws of the changes of basis.
+pub mod Frame
+pub mod Entries
+pub mod Shear
+pub mod Replace
+pub mod Reordering
+pub mod Rotation
+pub mod Exchange
+pub mod Remainders
+pub mod State
+pub mod Steps
+pub mod Searches
+pub mod Orders

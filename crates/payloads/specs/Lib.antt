@@ -1,0 +1,11 @@
+pub mod Heads
+pub mod Coefficients
+pub mod Entries
+pub mod Listing
+pub mod PutRows
+pub mod PutRecords
+pub mod Along
+pub mod Diagonals
+pub mod Blocks
+pub mod ClosedCoefficients
+pub mod Written
