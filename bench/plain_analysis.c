@@ -1,4 +1,4 @@
-/* The analysis in plain C, as crates/elimination and crates/analysis do it. */
+/* The analysis in plain C, as crates/basis, elimination, payloads and analysis do it. */
 #include "plain.h"
 #include <string.h>
 
@@ -22,7 +22,7 @@ static uint8_t remainder_of(uint32_t x, const Field *f) {
 
 static uint8_t inner(const Row x, const Row y, const Field *f) {
     uint32_t sum = 0;
-    for (size_t k = 0; k < f->n; k++) sum += (uint32_t)x[k] * y[k];
+    for (size_t k = 0; k < ORDER; k++) sum += (uint32_t)x[k] * y[k];
     return remainder_of(sum, f);
 }
 
@@ -72,10 +72,10 @@ static size_t first_nonzero(const Row x, size_t from, size_t k) {
     return k;
 }
 
-static size_t first_pivot(const Mat b, size_t j, size_t k, size_t n) {
-    Row x;
-    column(x, b, j, n);
-    return first_nonzero(x, j + 1, k);
+static size_t first_pivot(const Mat b, size_t j, size_t k) {
+    for (size_t i = j + 1; i < k; i++)
+        if (b[i][j] != 0) return i;
+    return k;
 }
 
 static size_t turned(size_t i, size_t m, size_t k) {
@@ -84,41 +84,59 @@ static size_t turned(size_t i, size_t m, size_t k) {
     return i;
 }
 
-static void turn_columns(Mat x, size_t m, size_t k, size_t n) {
+static void turn_columns(Mat x, const size_t *order, size_t n) {
     for (size_t i = 0; i < n; i++) {
         Row r;
         memcpy(r, x[i], ORDER);
-        for (size_t j = 0; j < n; j++) x[i][j] = r[turned(j, m, k)];
+        for (size_t j = 0; j < n; j++) x[i][j] = r[order[j]];
     }
 }
 
-static void turn_rows(Mat x, size_t m, size_t k, size_t n) {
+static void turn_rows(Mat x, const size_t *order, size_t n) {
     Mat r;
     memcpy(r, x, sizeof r);
-    for (size_t i = 0; i < n; i++) memcpy(x[i], r[turned(i, m, k)], ORDER);
+    for (size_t i = 0; i < n; i++) memcpy(x[i], r[order[i]], ORDER);
 }
 
 /* The first m basis vectors of [0,k) go behind the others. */
 static void rotate(State *s, size_t m, size_t k, size_t n) {
-    turn_columns(s->form, m, k, n);
-    turn_rows(s->form, m, k, n);
-    turn_columns(s->basis, m, k, n);
-    turn_rows(s->inverse, m, k, n);
+    if (m == k) return;
+    size_t order[ORDER];
+    for (size_t j = 0; j < n; j++) order[j] = turned(j, m, k);
+    turn_columns(s->form, order, n);
+    turn_rows(s->form, order, n);
+    turn_columns(s->basis, order, n);
+    turn_rows(s->inverse, order, n);
 }
 
-/* The first pivot of column j, at row q, comes to row j + 1. */
+static void exchange_columns(Mat x, size_t a, size_t b, size_t n) {
+    for (size_t i = 0; i < n; i++) {
+        uint8_t entry = x[i][a];
+        x[i][a] = x[i][b];
+        x[i][b] = entry;
+    }
+}
+
+static void exchange_rows(Mat x, size_t a, size_t b) {
+    Row row;
+    memcpy(row, x[a], ORDER);
+    memcpy(x[a], x[b], ORDER);
+    memcpy(x[b], row, ORDER);
+}
+
+/* The first pivot of column j, at row q, comes to row j + 1: two basis vectors are exchanged. */
 static void pull(State *s, size_t j, size_t q, const Field *f) {
     if (q == j + 1) return;
-    Row w = {0};
-    w[q] = 1;
-    w[j + 1] = (uint8_t)(f->p - 1);
-    replace(s, q, w, f);
+    exchange_columns(s->form, j + 1, q, f->n);
+    exchange_rows(s->form, j + 1, q);
+    exchange_columns(s->basis, j + 1, q, f->n);
+    exchange_rows(s->inverse, j + 1, q);
 }
 
 /* Column j takes the place of e_(j+1), from column 0 on, as far as there are pivots. */
 static void chain(State *s, size_t k, const Field *f) {
     for (size_t j = 0;; j++) {
-        size_t q = first_pivot(s->form, j, k, f->n);
+        size_t q = first_pivot(s->form, j, k);
         if (k <= q) return;
         pull(s, j, q, f);
         Row w;
@@ -128,10 +146,17 @@ static void chain(State *s, size_t k, const Field *f) {
 }
 
 /* How long the block at the head of the window is. */
-static size_t reach(const Mat b, size_t k, size_t n) {
+static size_t reach(const Mat b, size_t k) {
     for (size_t j = 0; j + 1 < k; j++)
-        if (k <= first_pivot(b, j, k, n)) return j + 1;
+        if (k <= first_pivot(b, j, k)) return j + 1;
     return k;
+}
+
+/* z = the sum of the rows of m, each as often as v says. */
+static void combination(Row z, const Row v, const Mat m, const Field *f) {
+    memset(z, 0, ORDER);
+    for (size_t i = 0; i < f->n; i++)
+        if (v[i] != 0) add_multiple(z, v[i], m[i], f);
 }
 
 /* Row a + 1 is wiped from column m on, by multiples of e_a. */
@@ -143,11 +168,11 @@ static void wipe(State *s, size_t a, size_t m, size_t k, const Field *f) {
     u[a] = (uint8_t)(f->p - 1);
     column(c, s->form, a, f->n);
     add_outer(s->form, c, v, f);
-    product_row(z, v, s->form, f->n, f->p);
+    combination(z, v, s->form, f);
     add_outer(s->form, u, z, f);
     column(c, s->basis, a, f->n);
     add_outer(s->basis, c, v, f);
-    product_row(z, v, s->inverse, f->n, f->p);
+    combination(z, v, s->inverse, f);
     add_outer(s->inverse, u, z, f);
 }
 
@@ -166,9 +191,10 @@ static void apply(Row out, const Mat b, const Row g, const Field *f) {
 
 /* Whether the polynomial of the block of m kills e_j, tried by powers of b. */
 static int killed(const Mat b, size_t j, size_t m, const Field *f) {
-    Row g = {0}, v = {0}, x = {0};
-    g[j] = 1;
-    for (size_t e = 0; e < m; e++) {
+    Row g, v = {0}, x = {0};
+    column(g, b, j, f->n);
+    v[j] = b[0][m - 1];
+    for (size_t e = 1; e < m; e++) {
         add_multiple(v, b[e][m - 1], g, f);
         apply(x, b, g, f);
         memcpy(g, x, ORDER);
@@ -184,18 +210,18 @@ static void probe(State *s, size_t m, size_t k, const Field *f) {
         w[0] = w[j] = 1;
         replace(s, 0, w, f);
         chain(s, k, f);
-        if (m < reach(s->form, k, f->n)) return;
+        if (m < reach(s->form, k)) return;
     }
 }
 
 /* The window becomes a block whose polynomial kills all of it, and the rest. */
 static void split(State *s, size_t k, const Field *f) {
     chain(s, k, f);
-    size_t m = reach(s->form, k, f->n);
+    size_t m = reach(s->form, k);
     for (;;) {
         settle(s, m, k, f);
-        if (reach(s->form, k, f->n) <= m) probe(s, m, k, f);
-        size_t h = reach(s->form, k, f->n);
+        if (reach(s->form, k) <= m) probe(s, m, k, f);
+        size_t h = reach(s->form, k);
         if (h <= m) return;
         m = h;
     }
@@ -210,7 +236,7 @@ static void reduce(State *s, const uint8_t *matrix, const Field *f) {
     }
     for (size_t k = f->n; 0 < k;) {
         split(s, k, f);
-        size_t m = reach(s->form, k, f->n);
+        size_t m = reach(s->form, k);
         rotate(s, m, k, f->n);
         k -= m;
     }
@@ -257,53 +283,65 @@ static uint8_t d_coefficient(const Forms *x, size_t i, size_t end, size_t k) {
     return k == 0;
 }
 
-static uint8_t p_coefficient(const Forms *x, size_t end, size_t i, size_t c, size_t k) {
-    return i + k <= end ? x->s.inverse[i + k][c] : 0;
+/* The coefficients of P in row i and column c. Here and below only those that can be other than zero are put. */
+static void put_p(uint8_t *out, const Forms *x, size_t end, size_t i, size_t c) {
+    for (size_t k = 0; i + k <= end; k++) out[k] = x->s.inverse[i + k][c];
 }
 
-static uint8_t pi_coefficient(const Forms *x, size_t r, size_t i, size_t k) {
-    if (k == 0) return x->s.basis[r][i];
-    if (k != 1 || is_head(x->s.form, i)) return 0;
-    return opposite(x->s.basis[r][i - 1], x->f.p);
+static void put_pi(uint8_t *out, const Forms *x, size_t r, size_t i) {
+    out[0] = x->s.basis[r][i];
+    if (!is_head(x->s.form, i)) out[1] = opposite(x->s.basis[r][i - 1], x->f.p);
 }
 
-/* Row r of T times the polynomial of the block of row i, from coefficient k + 1 on. */
+/* Row r of T times the polynomial of the block of row i, from coefficient k + 1 on, with the leading 1 first. */
 static uint8_t head_sum(const Forms *x, size_t end, size_t r, size_t i, size_t k) {
-    uint32_t sum = 0;
-    for (size_t s = 0; i + s <= end; s++) sum += (uint32_t)x->s.basis[r][i + s] * block_coefficient(x, end, i + s + 1 + k);
-    return (uint8_t)(sum % x->f.p);
+    uint32_t sum = x->s.basis[r][end - k];
+    for (size_t s = 0; i + s + k < end; s++) sum += (uint32_t)x->s.basis[r][i + s] * opposite(x->s.form[i + s + 1 + k][end], x->f.p);
+    return remainder_of(sum, &x->f);
 }
 
-static uint8_t q_coefficient(const Forms *x, size_t end, size_t r, size_t i, size_t k) {
-    if (is_head(x->s.form, i)) return head_sum(x, end, r, i, k);
-    return k == 0 ? opposite(x->s.basis[r][i - 1], x->f.p) : 0;
+static void put_q(uint8_t *out, const Forms *x, size_t end, size_t r, size_t i) {
+    if (is_head(x->s.form, i))
+        for (size_t k = 0; i + k <= end; k++) out[k] = head_sum(x, end, r, i, k);
+    else
+        out[0] = opposite(x->s.basis[r][i - 1], x->f.p);
 }
 
-static uint8_t qi_coefficient(const Forms *x, size_t end, size_t i, size_t c, size_t k) {
+static void put_multiple(uint8_t *out, const Forms *x, size_t end, size_t i, size_t c) {
     uint8_t last = x->s.inverse[end][c];
-    if (is_head(x->s.form, i)) return k == 0 ? last : 0;
-    uint8_t a = block_coefficient(x, end, i + k);
-    if (k == 0) return plus_multiple((uint8_t)(x->f.p - x->s.inverse[i - 1][c]), a, last, x->f.p);
-    return plus_multiple(0, a, last, x->f.p);
+    uint32_t more = (uint32_t)(x->f.p - x->s.inverse[i - 1][c]);
+    size_t k = 0;
+    for (; i + k <= end; k++) {
+        out[k] = remainder_of(more + (uint32_t)opposite(x->s.form[i + k][end], x->f.p) * last, &x->f);
+        more = 0;
+    }
+    out[k] = last;
 }
 
-/* Coefficient k of the entry (r, c) of P, its inverse, Q or its inverse: records 3 to 6. */
-static uint8_t closed_coefficient(const Forms *x, size_t record, size_t i, size_t end, size_t r, size_t c, size_t k) {
-    if (record == 3) return p_coefficient(x, end, i, c, k);
-    if (record == 4) return pi_coefficient(x, r, i, k);
-    if (record == 5) return q_coefficient(x, end, r, i, k);
-    return qi_coefficient(x, end, i, c, k);
+static void put_qi(uint8_t *out, const Forms *x, size_t end, size_t i, size_t c) {
+    if (is_head(x->s.form, i))
+        out[0] = x->s.inverse[end][c];
+    else if (x->s.inverse[end][c] == 0)
+        out[0] = opposite(x->s.inverse[i - 1][c], x->f.p);
+    else
+        put_multiple(out, x, end, i, c);
 }
 
-static uint8_t *put_closed_entry(uint8_t *out, const Forms *x, size_t record, size_t r, size_t c) {
+/* The entry (r, c) of P, its inverse, Q or its inverse: records 3 to 6. */
+static void put_closed_entry(uint8_t *out, const Forms *x, size_t record, size_t r, size_t c) {
     size_t i = x->from[record == 3 || record == 6 ? r : c], end = x->last[i];
-    for (size_t k = 0; k < x->f.n; k++) out[k] = closed_coefficient(x, record, i, end, r, c, k);
-    return out + x->f.n;
+    if (record == 3) return put_p(out, x, end, i, c);
+    if (record == 4) return put_pi(out, x, r, i);
+    if (record == 5) return put_q(out, x, end, r, i);
+    put_qi(out, x, end, i, c);
 }
 
 static uint8_t *put_polynomials(uint8_t *out, const Forms *x, size_t record) {
-    for (size_t r = 0; r < x->f.n; r++)
-        for (size_t c = 0; c < x->f.n; c++) out = put_closed_entry(out, x, record, r, c);
+    size_t n = x->f.n;
+    for (size_t r = 0; r < n; r++, out += n * n) {
+        memset(out, 0, n * n);
+        for (size_t c = 0; c < n; c++) put_closed_entry(out + c * n, x, record, r, c);
+    }
     return out;
 }
 

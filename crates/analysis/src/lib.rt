@@ -10,11 +10,11 @@ ghost use Rattle.forms.specs.LegalRequests.{Legal};
 use crate::questions::analysis_asked;
 use certificate::limits::Limits;
 use elimination::elimination::reduce;
+use entries::heads::last_rows;
+use entries::heads::order;
 use forms::Analysed;
 use matrices::loading::field_matrix;
-use payloads::heads::last_rows;
-use payloads::heads::order;
-use payloads::payloads::put_records;
+use payloads::put_records;
 
 pub mod questions; // what is refused
 

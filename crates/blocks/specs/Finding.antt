@@ -14,7 +14,7 @@ use Rattle.forms.specs.Reading.{reading}
 use Rattle.forms.specs.Operations.{is-mark, part-marked, part-found, Finds}
 use Rattle.forms.specs.Tests.{cond-fails}
 use Rattle.forms.specs.Findings.{marks-differ, nothing-found}
-use Rattle.certificate.specs.Found.{Marks, is-the-mark, found-not-empty}
+use Rattle.finding.specs.Found.{Marks, is-the-mark, found-not-empty}
 
 -- where the part starts that m marks, among the first k records; 0 where it marks none
 unfoldable pub start-marked : ℕ → List ℕ → List ℕ → ℕ

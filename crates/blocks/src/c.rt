@@ -11,9 +11,9 @@ use answers::reciprocal_number;
 use answers::reciprocal_value;
 use answers::verdict_number;
 use answers::verdict_place;
-use certificate::finding::record_marked;
 use certificate::reading::byte;
 use certificate::records::record_start;
+use finding::record_marked;
 
 #[no_mangle]
 pub extern "C" fn nyargulet_analysis(

@@ -25,7 +25,7 @@ pub fn check(certificate: &[u8]) -> Verdict
 pub fn find<'a, 'b>(certificate: &'a [u8], mark: &'b [u8]) -> &'a [u8]
     ensures { λ r. ⌜ Finds (now (certificate .entry)) (now (mark .entry)) (now r) ⌝ }
 {
-    certificate::finding::find(certificate, mark)
+    finding::find(certificate, mark)
 }
 
 // The reciprocal of x modulo p, and 0 for 0.

@@ -1,15 +1,14 @@
 -- The code's marks are those of the ten records, and sizes and offsets are small for every byte n.
-use mathlib.Core.Path.{_≡_, refl, sym, _∙_, ap, ap₂}
+use mathlib.Core.Path.{_≡_, refl, sym, _∙_, ap}
 use mathlib.Core.Bool.{_&&_}
 use mathlib.Core.List.{List, [], _∷_}
-use Prim.Native.Nat.{ℕ, zero, suc, _+_, _*_, _-_, _≤_, _<_}
+use Prim.Native.Nat.{ℕ, zero, suc, _+_, _*_, _≤_, _<_}
 use native.Mathlib.Nat.{add-assoc, mul-le-mul, mul-suc}
 use native.Mathlib.Numerals.{add-one}
 use native.Mathlib.Omega.{arith}
 use lib.Dec.{eqb}
-use lib.ListN.{take, drop}
-use Rattle.forms.specs.Numbers.{at, total, every}
-use Rattle.forms.specs.Certificate.{mark, joined, size, offset, part}
+use Rattle.forms.specs.Numbers.{at, total}
+use Rattle.forms.specs.Certificate.{mark, joined, size, offset}
 use Rattle.forms.specs.Reading.{marked}
 use Rattle.forms.specs.Records.{ten-cases, offset-suc}
 
@@ -51,10 +50,3 @@ offset-next n k = ap (offset n) (add-one k) ∙ offset-suc n k ∙ sym (add-asso
 pub offset-small : (n k : ℕ) → n < 256 → k ≤ 10 → offset n k ≤ k * 16581379
 offset-small n zero l h = let e = offset-zero n in omega arith
 offset-small n (suc k) l h = let a = offset-small n k l (omega arith) in let b = size-small n k l (omega arith) in let e = offset-suc n k in omega arith
-
--- the payload of record k, from behind its head to the next record
-pub part-by-offsets : (n k : ℕ) (s : List ℕ) {start next : ℕ} → start ≡ offset n k → next ≡ offset n (k + 1) → take (next - (start + 4)) (drop (start + 4) s) ≡ part n k s
-unfolding part
-part-by-offsets n k s {start} {next} e f =
-    let many : next - (start + 4) ≡ size n k = let g = offset-next n k in omega arith in
-    ap₂ (λ (x y : ℕ). take x (drop y s)) many (ap (λ (x : ℕ). x + 4) e)

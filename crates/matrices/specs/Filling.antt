@@ -4,7 +4,7 @@ use mathlib.Core.Bool.{Bool, true, false, and-false}
 use mathlib.Core.List.{List, [], _∷_, _++_, append-assoc}
 use Prim.Native.Nat.{ℕ, zero, suc, _+_, _-_, _≤_, _<_}
 use native.Mathlib.Numerals.{add-one}
-use native.Mathlib.Nat.{add-zero, add-suc, le-antisymm}
+use native.Mathlib.Nat.{le-antisymm}
 use native.Mathlib.Decide.{decLt, ℕ-discrete}
 use native.Mathlib.Omega.{arith}
 use lib.ListN.{length, drop, getD, set, length-append}
@@ -41,18 +41,6 @@ module _ {A : Type 0} where
 
   pub fill-end : (d : List A) {l : List A} {i n : ℕ} (f : ℕ → A) → l ≡ filled i f d → i ≤ n → n ≤ i → l ≡ filled n f d
   fill-end d f e h g = rw (le-antisymm g h) e
-
-  -- what stands there already need not be filled in
-  fill-same : (d : List A) (n : ℕ) (f : ℕ → A) (e : A) → n < length d → f n ≡ getD d n e → filled n f d ≡ filled (suc n) f d
-  unfolding filled build
-  fill-same d n f e h q = rw (drop-cons d n e h, q, append-assoc)
-
-  pub fill-short : (d : List A) {l : List A} (m n : ℕ) (f : ℕ → A) (e : A) → l ≡ filled m f d → m ≤ n → n ≤ length d → ((i : ℕ) → m ≤ i → f i ≡ getD d i e) → l ≡ filled n f d
-  fill-short d {l} m n f e q h g s = q ∙ more (n - m) (omega arith) ∙ ap (λ (k : ℕ). filled k f d) (omega arith)
-    where
-      more : (k : ℕ) → m + k ≤ length d → filled m f d ≡ filled (m + k) f d
-      more zero h = ap (λ (k : ℕ). filled k f d) (sym (add-zero m))
-      more (suc k) h = more k (omega arith) ∙ fill-same d (m + k) f e (omega arith) (s (m + k) (omega arith)) ∙ ap (λ (k : ℕ). filled k f d) (sym (add-suc m k))
 
   build-at : (n : ℕ) (f : ℕ → A) (l : List A) (e : A) (i : ℕ) → i < n → getD (build n f ++ l) i e ≡ f i
   unfolding build

@@ -3,5 +3,3 @@ pub mod Matrices
 pub mod Loading
 pub mod Products
 pub mod Rows
-pub mod Inversion
-pub mod Zeros

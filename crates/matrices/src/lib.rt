@@ -7,10 +7,8 @@ ghost use Rattle.forms.specs.Numbers.{total, order-limit};
 ghost use Rattle.matrices.specs.Matrices.{cell};
 ghost use Rattle.matrices.specs.Products.{product-row, Multiplied};
 ghost use Rattle.matrices.specs.Rows.{unit-row, IsIdentity};
-ghost use Rattle.matrices.specs.Zeros.{zero-entries, is-zero};
 use forms::ORDER;
 
-pub mod inversion; // the inverse, by elimination
 pub mod loading; // a matrix from its bytes
 
 pub type Row = [u8; ORDER];
@@ -89,33 +87,4 @@ pub fn identity(n: usize) -> Mat
         i = i + 1;
     }
     e
-}
-
-fn is_zero_row(v: Row, n: usize) -> bool
-    requires { ⌜ n ≤ order-limit ⌝ }
-    ensures { λ r. ⌜ r ≡ zero-entries n v ⌝ }
-{
-    let mut j = 0;
-    while j < n {
-        if v[j] != 0 {
-            return false;
-        }
-        j = j + 1;
-    }
-    true
-}
-
-// Whether m is zero, which no inverse is.
-pub fn is_zero(m: Mat, n: usize) -> bool
-    requires { ⌜ n ≤ order-limit ⌝ }
-    ensures { λ r. ⌜ r ≡ is-zero n m ⌝ }
-{
-    let mut i = 0;
-    while i < n {
-        if !is_zero_row(m[i], n) {
-            return false;
-        }
-        i = i + 1;
-    }
-    true
 }

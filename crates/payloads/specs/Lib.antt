@@ -1,8 +1,3 @@
-pub mod Heads
-pub mod Coefficients
-pub mod Entries
-pub mod Listing
-pub mod PutRows
 pub mod PutRecords
 pub mod Along
 pub mod Diagonals

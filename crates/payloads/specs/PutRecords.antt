@@ -12,8 +12,8 @@ use Rattle.forms.specs.Words.{LaidOut}
 use Rattle.forms.specs.Records.{ten-cases, offset-within}
 use Rattle.forms.specs.Payloads.{payload-length}
 use Rattle.certificate.specs.Sizes.{offset-next}
-use Rattle.certificate.specs.Put.{put, Puts, puts-then, puts-bytes}
-use Rattle.certificate.specs.Written.{head-bytes, head-length, head-then-payload, RecordsPut, next-record-put}
+use Rattle.writing.specs.Put.{put, Puts, puts-then, puts-bytes}
+use Rattle.writing.specs.Written.{head-bytes, head-length, head-then-payload, RecordsPut, next-record-put}
 
 -- a length of two bytes
 pub size-fits : (n k : ℕ) → n ≤ order-limit → k < 10 → size n k < 65536

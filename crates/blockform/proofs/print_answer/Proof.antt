@@ -12,7 +12,7 @@ use Rattle.blockform.proofs.print_answer.Lts as lts
 use Rattle.answers.proofs.fault_number.Reads as fault-number-reads
 use Rattle.answers.proofs.fault_place.Reads as fault-place-reads
 use Rattle.blockform.proofs.print_forms.Reads as print-forms-reads
-use Rattle.certificate.proofs.finding.payload.Reads as payload-reads
+use Rattle.finding.proofs.payload.Reads as payload-reads
 use Rattle.certificate.proofs.reading.byte.Reads as byte-reads
 use Rattle.certificate.proofs.reading.read_matrix.Reads as read-matrix-reads
 use Rattle.report.proofs.print_refusal.Reads as print-refusal-reads

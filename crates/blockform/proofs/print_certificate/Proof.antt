@@ -8,7 +8,7 @@ use Rattle.blockform.proofs.print_certificate.Tie as tie
 use Rattle.blockform.proofs.print_certificate.Reads as reads
 use Rattle.blockform.proofs.print_certificate.Lts as lts
 use Rattle.blockform.proofs.listing.print_listing.Reads as print-listing-reads
-use Rattle.certificate.proofs.finding.payload.Reads as payload-reads
+use Rattle.finding.proofs.payload.Reads as payload-reads
 
 payload-requires : tie.Need-payload-requires
 payload-requires c κs =

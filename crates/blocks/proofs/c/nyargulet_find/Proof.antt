@@ -10,7 +10,7 @@ use Rattle.blocks.proofs.c.nyargulet_find.Tie as tie
 use Rattle.blocks.proofs.c.nyargulet_find.Reads as reads
 use Rattle.blocks.proofs.c.nyargulet_find.Lts as lts
 use Rattle.blocks.proofs.find.Reads as find-reads
-use Rattle.certificate.proofs.finding.record_marked.Reads as record-marked-reads
+use Rattle.finding.proofs.record_marked.Reads as record-marked-reads
 use Rattle.certificate.proofs.reading.byte.Reads as byte-reads
 use Rattle.certificate.proofs.records.record_start.Reads as record-start-reads
 

@@ -1,0 +1,6 @@
+pub mod Heads
+pub mod Coefficients
+pub mod Entries
+pub mod Listing
+pub mod PutRows
+pub mod PutEntries

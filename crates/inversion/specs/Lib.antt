@@ -1,0 +1,3 @@
+pub mod RowAddition
+pub mod Inversion
+pub mod Zeros
