@@ -8,6 +8,7 @@ pub mod Rotation
 pub mod Exchange
 pub mod Remainders
 pub mod State
+pub mod Overwriting
 pub mod Steps
 pub mod Searches
 pub mod Orders

@@ -9,6 +9,7 @@ use Rattle.algebra.specs.Modular.{residue, modulo}
 use Rattle.matrices.specs.Filling.{filled, filled-inside}
 use Rattle.matrices.specs.Matrices.{cell, matrix, matrix-inside, FieldRow, FieldMatrix, Square, zero-row, zero-rows, filled-row, filled-cell, filled-field}
 use Rattle.basis.specs.Exchange.{exchange, exchange-other, exchange-below, exchanged, exchanged-at}
+use Rattle.basis.specs.Overwriting.{overwritten-cell, overwritten-field}
 use Rattle.basis.specs.Reordering.{Reordered}
 use Rattle.basis.specs.Rotation.{rotation, rotation-none, rotation-inside}
 use Rattle.basis.specs.State.{Array, State, frame, Fields, field-row}
@@ -106,10 +107,10 @@ module _ (n a b : ℕ) (l : a < n) (g : b < n) (o : n ≤ order-limit) (x r : Ar
     rest = λ j c. column-cell i j h ∙ ap (cell x i) (stays j c) ∙ f .columns i j c;
   }
 
-  pub exchanged-columns : r ≡ filled n (λ i. exchanged 0 a b (getD x i [])) zero-rows → ColumnsIn n (exchange a b) x r
+  pub exchanged-columns : r ≡ filled n (λ i. exchanged 0 a b (getD x i [])) x → ColumnsIn n (exchange a b) x r
   exchanged-columns e = rw e (record {
-    cells = λ i j c d. filled-cell n (λ i. exchanged 0 a b (getD x i [])) i j c ∙ column-cell i j c;
-    field = λ p f. filled-field p n _ (column-row p f);
+    cells = λ i j c d. overwritten-cell n (λ i. exchanged 0 a b (getD x i [])) x i j c ∙ column-cell i j c;
+    field = λ p f. overwritten-field n _ x p f (column-row p f);
   })
 
   row-cell : (i j : ℕ) → cell (exchanged [] a b x) i j ≡ cell x (exchange a b i) j

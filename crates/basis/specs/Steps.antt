@@ -19,14 +19,15 @@ use Rattle.algebra.specs.Matrix.{Vector, matrix-plus, matrix-plus-within, produ
 use Rattle.algebra.specs.Elementary.{outer, outer-within, elementary, elementary-within, product-elementary, elementary-product}
 use Rattle.algebra.specs.Modular.{residue, modulo, residue-one, residue-times, residue-remainder, residue-zero, residue-minus, minus-one-times}
 use Rattle.matrices.specs.Filling.{filled, filled-inside, filled-outside, fill-start, fill-turn}
-use Rattle.matrices.specs.Matrices.{cell, vector, matrix, vector-inside, vector-upto, matrix-inside, matrix-within, matrix-is, FieldRow, FieldMatrix, zero-row, zero-rows, zero-row-at, filled-row, filled-cell, filled-field}
+use Rattle.matrices.specs.Matrices.{cell, vector, matrix, vector-inside, vector-upto, matrix-inside, matrix-within, matrix-is, FieldRow, FieldMatrix, Square, zero-row, zero-row-at, filled-row}
 use Rattle.forms.specs.Rings.{total-residue}
 use Rattle.forms.specs.Tests.{total-suc}
 use Rattle.matrices.specs.Rows.{plus-row, unit-row}
 use Rattle.basis.specs.Entries.{apply-delta, combine-delta, inner-none}
 use Rattle.basis.specs.Shear.{taken, Sheared}
 use Rattle.basis.specs.Replace.{added, added-upto, pivot-is, column-same, column-other, Replaced}
-use Rattle.basis.specs.State.{Array, State, frame, unit-vector, plus-row-vector, zero-vector, single-vector, row-vector, column-vector}
+use Rattle.basis.specs.Overwriting.{overwritten-cell, overwritten-field}
+use Rattle.basis.specs.State.{Array, State, frame, unit-vector, plus-row-vector, zero-vector, single-vector, row-vector, column-vector, field-row}
 
 filled-length : {A : Type 0} (n : ℕ) (f : ℕ → A) (d : List A) → n ≤ length d → length (filled n f d) ≡ length d
 filled-length zero f d h = ap length (sym (fill-start d f))
@@ -43,20 +44,24 @@ plus-row-nothing p n x y h e f = ext-getD 0 x (plus-row p n x 0 y) (e ∙ sym (f
 
 -- m + c zᵀ
 abbrev pub outer-rows : (p n : ℕ) → Array → List ℕ → List ℕ → Array
-outer-rows p n m c z = filled n (λ i. plus-row p n (getD m i []) (getD c i 0) z) zero-rows
+outer-rows p n m c z = filled n (λ i. plus-row p n (getD m i []) (getD c i 0) z) m
 
 pub record PlusOuter (p n : ℕ) (m : Array) (c z : List ℕ) (r : Array) : Type 0 where
   pub is : matrix p n r ≡ matrix-plus (modulo p) (matrix p n m) (outer (modulo p) (vector p n c) (vector p n z))
   pub field : FieldMatrix p n r
 
-pub plus-outer : (p n : ℕ) (m : Array) (c z : List ℕ) (r : Array) → 0 < p → r ≡ outer-rows p n m c z → PlusOuter p n m c z r
+pub plus-outer : (p n : ℕ) (m : Array) (c z : List ℕ) (r : Array) → 0 < p → FieldMatrix p n m → r ≡ outer-rows p n m c z → PlusOuter p n m c z r
 unfolding matrix-plus outer
-plus-outer p n m c z r h e = rw e (record {
+plus-outer p n m c z r h f e = rw e (record {
   is = matrix-is p n _ _ (matrix-plus-within (modulo p) n _ _ (matrix-within p n m) (outer-within (modulo p) n _ _ (vector-upto p n c) (vector-upto p n z))) (λ i j l g.
-      ap (residue p) (filled-cell n (λ i. plus-row p n (getD m i []) (getD c i 0) z) i j l) ∙ sym (vector-inside p n (plus-row p n (getD m i []) (getD c i 0) z) j g)
+      ap (residue p) (overwritten-cell n (λ i. plus-row p n (getD m i []) (getD c i 0) z) m i j l) ∙ sym (vector-inside p n (plus-row p n (getD m i []) (getD c i 0) z) j g)
       ∙ plus-row-vector p n (getD m i []) (getD c i 0) z h j ∙ ap₂ (λ a b. modulo p .plus a (modulo p .times b (vector p n z j))) (row-vector p n m i j l) (sym (vector-inside p n c i l)));
-  field = filled-field p n _ (λ i l. filled-row p n _ (λ j g. mod-lt _ h));
+  field = overwritten-field n _ m p f (λ i l. filled-row p n _ (λ j g. mod-lt _ h));
 })
+
+-- the multiple 0 leaves its row
+pub row-without : (p n i : ℕ) (m : Array) (c z : List ℕ) → n ≤ order-limit → i < n → Square m → FieldMatrix p n m → getD c i 0 ≡ 0 → getD m i [] ≡ plus-row p n (getD m i []) (getD c i 0) z
+row-without p n i m c z h l q f e = plus-row-nothing p n (getD m i []) z h (q .wide i (omega arith)) (field-row p n m i l f) ∙ ap (λ (k : ℕ). plus-row p n (getD m i []) k z) (sym e)
 
 -- column s becomes m w
 abbrev pub entry-of : (p n : ℕ) → List ℕ → List ℕ → ℕ
@@ -74,7 +79,7 @@ pub entry-short : (p n : ℕ) (x w : List ℕ) → n ≤ order-limit → FieldRo
 entry-short p n x w h f = ap (λ (t : ℕ). t % p) (total-short n order-limit _ h (λ k g. ap (λ (y : ℕ). y * getD w k 0) (f .rest k g) ∙ zero-mul _))
 
 abbrev pub column-rows : (p n s : ℕ) → List ℕ → Array → Array
-column-rows p n s w m = filled n (λ i. set (getD m i []) s (entry-of p n (getD m i []) w)) zero-rows
+column-rows p n s w m = filled n (λ i. set (getD m i []) s (entry-of p n (getD m i []) w)) m
 
 pub record ColumnSet (p n s : ℕ) (w : List ℕ) (m r : Array) : Type 0 where
   pub is : matrix p n r ≡ product (modulo p) n (matrix p n m) (elementary (modulo p) n (added (modulo p) s (vector p n w)) (delta (modulo p) s))
@@ -87,7 +92,7 @@ module _ (p n s : ℕ) (w : List ℕ) (m : Array) (h : 0 < p) (l : s < n) (wide 
       ∙ sym (apply-at (modulo p) n _ _ i)
 
   column-cell : (i j : ℕ) → i < n → cell (column-rows p n s w m) i j ≡ getD (set (getD m i []) s (entry-of p n (getD m i []) w)) j 0
-  column-cell i j g = filled-cell n (λ i. set (getD m i []) s (entry-of p n (getD m i []) w)) i j g
+  column-cell i j g = overwritten-cell n (λ i. set (getD m i []) s (entry-of p n (getD m i []) w)) m i j g
 
   column-entry : (i j : ℕ) → i < n → j < n → residue p (cell (column-rows p n s w m) i j) ≡ product (modulo p) n (matrix p n m) (elementary (modulo p) n (added (modulo p) s (vector p n w)) (delta (modulo p) s)) i j
   column-entry i j g q = ap (residue p) (column-cell i j g) ∙ elim (ℕ-discrete s j) [
@@ -108,7 +113,7 @@ module _ (p n s : ℕ) (w : List ℕ) (m : Array) (h : 0 < p) (l : s < n) (wide 
   pub column-set : FieldMatrix p n m → (r : Array) → r ≡ column-rows p n s w m → ColumnSet p n s w m r
   column-set f r e = rw e (record {
     is = matrix-is p n _ _ (product-within (modulo p) n _ _ (matrix-within p n m) (elementary-within (modulo p) n _ _ (added-upto (modulo p) n s (vector p n w) l (vector-upto p n w)) (λ i g. delta-other (modulo p) s i (omega arith)))) column-entry;
-    field = filled-field p n _ (column-row f);
+    field = overwritten-field n _ m p f (column-row f);
   })
 
 -- a row operation: c times row s is added

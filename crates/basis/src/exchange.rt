@@ -2,34 +2,23 @@
 ghost use mathlib.Core.Path.{_≡_};
 ghost use Prim.Native.Nat.{_≤_, _<_};
 ghost use Rattle.forms.specs.Numbers.{order-limit};
-ghost use Rattle.basis.specs.Exchange.{exchange, exchanged};
+ghost use Rattle.basis.specs.Exchange.{exchange};
 ghost use Rattle.basis.specs.Orders.{ColumnsIn, RowsIn, InOrder};
 use crate::steps::State;
-use forms::ORDER;
 use matrices::Mat;
-use matrices::Row;
 
-fn exchange_entries(x: Row, a: usize, b: usize) -> Row
-    requires { ⌜ (a < order-limit) × (b < order-limit) ⌝ }
-    ensures { λ r. ⌜ r ≡ exchanged 0 a b x ⌝ }
-{
-    let mut r = x;
-    r[a] = x[b];
-    r[b] = x[a];
-    r
-}
-
-fn exchange_columns(x: Mat, a: usize, b: usize, n: usize) -> Mat
+fn exchange_columns(mut x: Mat, a: usize, b: usize, n: usize) -> Mat
     requires { ⌜ (n ≤ order-limit) × (a < n) × (b < n) ⌝ }
     ensures { λ r. ⌜ ColumnsIn n (exchange a b) x r ⌝ }
 {
-    let mut r = [[0u8; ORDER]; ORDER];
     let mut i = 0;
     while i < n {
-        r[i] = exchange_entries(x[i], a, b);
+        let v = x[i][a];
+        x[i][a] = x[i][b];
+        x[i][b] = v;
         i = i + 1;
     }
-    r
+    x
 }
 
 fn exchange_rows(x: Mat, a: usize, b: usize, n: usize) -> Mat

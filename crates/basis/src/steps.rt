@@ -69,19 +69,20 @@ fn plus_multiple_row(x: Row, k: u8, y: Row, n: usize, p: u8, factor: u64) -> Row
     add_multiple(x, k, y, n, p, factor)
 }
 
-// m + c zᵀ
-pub fn plus_outer(m: Mat, c: Row, z: Row, n: usize, p: u8) -> Mat
+// m + c zᵀ; rows for which c has 0 stay as they are.
+pub fn plus_outer(mut m: Mat, c: Row, z: Row, n: usize, p: u8) -> Mat
     requires { ⌜ (n ≤ order-limit) × (0 < p) × FieldMatrix p n m ⌝ }
     ensures { λ r. ⌜ PlusOuter p n m c z r ⌝ }
 {
     let f = factor(p);
-    let mut r = [[0u8; ORDER]; ORDER];
     let mut i = 0;
     while i < n {
-        r[i] = plus_multiple_row(m[i], c[i], z, n, p, f);
+        if c[i] != 0 {
+            m[i] = add_multiple(m[i], c[i], z, n, p, f);
+        }
         i = i + 1;
     }
-    r
+    m
 }
 
 // v m; rows for which v has 0 are passed over.
@@ -111,19 +112,17 @@ pub fn with_entry(x: Row, at: usize, v: u8) -> Row
 }
 
 // m with m w for one column.
-fn set_column(m: Mat, at: usize, w: Row, n: usize, p: u8) -> Mat
+fn set_column(mut m: Mat, at: usize, w: Row, n: usize, p: u8) -> Mat
     requires { ⌜ (n ≤ order-limit) × (at < n) × (0 < p) × FieldMatrix p n m ⌝ }
     ensures { λ r. ⌜ ColumnSet p n at w m r ⌝ }
 {
     let f = factor(p);
-    let mut r = [[0u8; ORDER]; ORDER];
     let mut i = 0;
     while i < n {
-        let v = inner(m[i], w, p, f);
-        r[i] = with_entry(m[i], at, v);
+        m[i][at] = inner(m[i], w, p, f);
         i = i + 1;
     }
-    r
+    m
 }
 
 // The basis vector e_at is replaced by w.
