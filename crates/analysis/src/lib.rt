@@ -10,9 +10,9 @@ ghost use Rattle.forms.specs.LegalRequests.{Legal};
 use crate::questions::analysis_asked;
 use certificate::limits::Limits;
 use elimination::elimination::reduce;
-use entries::heads::last_rows;
-use entries::heads::order;
 use forms::Analysed;
+use heads::last_rows;
+use heads::order;
 use matrices::loading::field_matrix;
 use payloads::put_records;
 

@@ -3,12 +3,8 @@ pub mod Frame
 pub mod Entries
 pub mod Shear
 pub mod Replace
-pub mod Reordering
-pub mod Rotation
-pub mod Exchange
 pub mod Remainders
 pub mod State
 pub mod Overwriting
 pub mod Steps
 pub mod Searches
-pub mod Orders

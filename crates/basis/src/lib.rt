@@ -1,5 +1,3 @@
 // Changes of basis of a field matrix: B, T and the inverse of T, with A T = T B.
 pub mod remainders; // remainders by a multiplication
 pub mod steps; // rows and columns, and one basis vector replaced
-pub mod turning; // the basis in another order
-pub mod exchange; // two basis vectors exchanged

@@ -20,8 +20,8 @@ use Rattle.basis.specs.Frame.{Window, Change, change-then}
 use Rattle.basis.specs.Replace.{Replaced}
 use Rattle.elimination.specs.Shapes.{CompanionRows}
 use Rattle.elimination.specs.Wipe.{wipe-change, wipe-columns, wipe-rows, wipe-zero}
-use Rattle.basis.specs.Reordering.{Reordered}
-use Rattle.basis.specs.Rotation.{rotation, rotated-change}
+use Rattle.ordering.specs.Reordering.{Reordered}
+use Rattle.ordering.specs.Rotation.{rotation, rotated-change}
 use Rattle.elimination.specs.Pass.{Ready, Chained}
 use Rattle.elimination.specs.Killing.{corner, Kills}
 use Rattle.elimination.specs.Settle.{Headed, Wiped, wiped-none, Cleared, clear-turn, cleared-headed, Settled, settled-same, settled-longer, chained-headed}
@@ -32,7 +32,7 @@ use Rattle.basis.specs.Steps.{PlusOuter, opposite-unit, spread}
 use Rattle.basis.specs.Searches.{column-of, column-of-at, FirstNonzero}
 use Rattle.elimination.specs.Tails.{tail-of, tail-before, tail-low, tail-high, tail-upto}
 use Rattle.elimination.specs.Reaching.{Reach, reach-is}
-use Rattle.basis.specs.Orders.{InOrder}
+use Rattle.ordering.specs.Orders.{InOrder}
 
 module _ (p n k m a : ℕ) (s : State) (g : Given p n k s) (h : Headed (modulo p) k m (frame p n s)) (l : a + 1 < m) where
   -- row a + 1 has nothing from column m on

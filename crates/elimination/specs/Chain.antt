@@ -10,8 +10,8 @@ use Rattle.algebra.specs.Sum.{delta, delta-same, delta-other}
 use Rattle.algebra.specs.Matrix.{Vector, Upto}
 use Rattle.basis.specs.Entries.{apply-single}
 use Rattle.basis.specs.Frame.{Frame, FrameWithin}
-use Rattle.basis.specs.Exchange.{exchange, exchange-first, exchange-other, exchange-cases}
-use Rattle.basis.specs.Reordering.{Reordered}
+use Rattle.ordering.specs.Exchange.{exchange, exchange-first, exchange-other, exchange-cases}
+use Rattle.ordering.specs.Reordering.{Reordered}
 use Rattle.basis.specs.Shear.{taken}
 use Rattle.basis.specs.Replace.{added, Replaced, pivot-unit, replaced-other, replaced-row, replaced-column, replaced-row-same, replaced-T}
 use Rattle.elimination.specs.Shapes.{UnitColumns, CompanionRows, Ahead, Kept}

@@ -13,8 +13,8 @@ use Rattle.algebra.specs.Divides.{Divides}
 use Rattle.algebra.specs.Polynomial.{Polynomial, polynomials, Monic}
 use Rattle.basis.specs.Frame.{Frame, FrameWithin, In, column, Window}
 use Rattle.elimination.specs.Killing.{monic-of-low, monic-of-monic, corner, Kills, kills-span, kills-out-of-frame, corner-divides}
-use Rattle.basis.specs.Rotation.{rotation, rotation-low, rotation-middle, rotation-high, rotation-below, rotated-change}
-use Rattle.basis.specs.Reordering.{Reordered}
+use Rattle.ordering.specs.Rotation.{rotation, rotation-low, rotation-middle, rotation-high, rotation-below, rotated-change}
+use Rattle.ordering.specs.Reordering.{Reordered}
 use Rattle.elimination.specs.Probe.{Split}
 
 module _ {R : Type 0} (K : Ring R) where

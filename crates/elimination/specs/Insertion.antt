@@ -7,8 +7,8 @@ use native.Mathlib.Omega.{arith}
 use Rattle.algebra.specs.Ring.{Ring}
 use Rattle.algebra.specs.Sum.{delta-same, delta-other}
 use Rattle.basis.specs.Frame.{Frame, FrameWithin}
-use Rattle.basis.specs.Reordering.{Reordered}
-use Rattle.basis.specs.Rotation.{rotation, rotation-low, rotation-middle, rotation-high}
+use Rattle.ordering.specs.Reordering.{Reordered}
+use Rattle.ordering.specs.Rotation.{rotation, rotation-low, rotation-middle, rotation-high}
 use Rattle.elimination.specs.Shapes.{CompanionColumns, Ahead}
 
 module _ {R : Type 0} (K : Ring R) where

@@ -9,8 +9,8 @@ use Rattle.algebra.specs.Ring.{Ring}
 use Rattle.algebra.specs.Sum.{delta-same}
 use Rattle.algebra.specs.Matrix.{Vector, Upto}
 use Rattle.basis.specs.Frame.{Frame, FrameWithin, Window, Change, change-none, change-then}
-use Rattle.basis.specs.Exchange.{exchange, exchanged-change}
-use Rattle.basis.specs.Reordering.{Reordered}
+use Rattle.ordering.specs.Exchange.{exchange, exchanged-change}
+use Rattle.ordering.specs.Reordering.{Reordered}
 use Rattle.basis.specs.Replace.{Replaced, replaced-change, replaced-T}
 use Rattle.elimination.specs.Shapes.{UnitColumns, CompanionRows, Ahead, ahead-none, Kept, kept-none, kept-then, kept-rows}
 use Rattle.elimination.specs.Chain.{push-columns, push-ahead, push-kept, pull-columns, pull-pivot, pull-first}

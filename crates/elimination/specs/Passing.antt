@@ -9,12 +9,12 @@ use native.Mathlib.Omega.{arith}
 use lib.ListN.{getD}
 use Rattle.algebra.specs.Modular.{modulo}
 use Rattle.matrices.specs.Matrices.{cell, vector, matrix}
-use Rattle.basis.specs.Exchange.{exchange}
-use Rattle.basis.specs.Reordering.{Reordered}
+use Rattle.ordering.specs.Exchange.{exchange}
+use Rattle.ordering.specs.Reordering.{Reordered}
 use Rattle.basis.specs.Replace.{Replaced}
 use Rattle.elimination.specs.Pass.{Ready, Passed, passed-start, passed-then, Pulled, push-passes, pull-pulls, Chained, pass-ends}
 use Rattle.basis.specs.State.{Array, State, frame, frame-within, Given, prime-distinct, zero-entry, entry-nonzero, nonzero-entry, column-vector}
-use Rattle.basis.specs.Orders.{InOrder}
+use Rattle.ordering.specs.Orders.{InOrder}
 use Rattle.basis.specs.Searches.{column-of, column-of-at, FirstNonzero}
 use Rattle.elimination.specs.Reaching.{HasPivot, Reach}
 

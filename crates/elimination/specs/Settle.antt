@@ -9,8 +9,8 @@ use Rattle.algebra.specs.Ring.{Ring}
 use Rattle.basis.specs.Frame.{Frame, FrameWithin, Window, Change, change-none, change-then}
 use Rattle.elimination.specs.Shapes.{CompanionColumns, columns-of-units, columns-equal, CompanionRows}
 use Rattle.elimination.specs.Insertion.{inserted-ahead}
-use Rattle.basis.specs.Reordering.{Reordered}
-use Rattle.basis.specs.Rotation.{rotation, rotated-change}
+use Rattle.ordering.specs.Reordering.{Reordered}
+use Rattle.ordering.specs.Rotation.{rotation, rotated-change}
 use Rattle.elimination.specs.Pass.{Chained}
 
 module _ {R : Type 0} (K : Ring R) where

@@ -28,11 +28,11 @@ use basis::steps::inner;
 use basis::steps::plus_outer;
 use basis::steps::replace;
 use basis::steps::with_entry;
-use basis::turning::rotate;
 use forms::ORDER;
 use matrices::Mat;
 use matrices::Row;
 use matrices::unit_row;
+use ordering::turning::rotate;
 
 fn tail_entry(x: u8, j: usize, m: usize, p: u8) -> u8
     requires { ⌜ (x < p) ⌝ }

@@ -7,9 +7,9 @@ ghost use Rattle.elimination.specs.Reduced.{Reduced};
 use crate::blocks::split;
 use crate::passes::reach;
 use basis::steps::State;
-use basis::turning::rotate;
 use matrices::Mat;
 use matrices::identity;
+use ordering::turning::rotate;
 
 // F, T and the inverse of T, with A T = T F and F the companion blocks of f_1 | f_2 | ..
 pub fn reduce(a: Mat, n: usize, p: u8) -> State

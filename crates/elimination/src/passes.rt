@@ -10,11 +10,11 @@ ghost use Rattle.elimination.specs.Pass.{Ready, Passed, Pulled, Chained}
 ghost use Rattle.basis.specs.State.{frame, Fields, Given};
 ghost use Rattle.basis.specs.Searches.{FirstNonzero};
 ghost use Rattle.elimination.specs.Reaching.{Reach};
-use basis::exchange::exchange_vectors;
 use basis::steps::State;
 use basis::steps::column;
 use basis::steps::replace;
 use matrices::Mat;
+use ordering::exchange::exchange_vectors;
 
 // The first row from j + 1 on, below k, where column j is not zero; k if there is none.
 fn first_pivot(b: Mat, j: usize, k: usize) -> usize

@@ -10,7 +10,7 @@ use Rattle.forms.specs.Polynomials.{Coefficients}
 use Rattle.forms.specs.ClosedForms.{opposite}
 use Rattle.matrices.specs.Matrices.{cell}
 use Rattle.basis.specs.State.{Array, State}
-use Rattle.entries.specs.Heads.{begins}
+use Rattle.heads.specs.Heads.{begins}
 
 -- every entry is a residue
 pub record Small (p : ℕ) (m : Array) : Type 0 where

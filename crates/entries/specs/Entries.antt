@@ -3,18 +3,18 @@ use mathlib.Core.Path.{_≡_, refl, sym, _∙_, ap, ap₂, fun-ext}
 use mathlib.Core.Bool.{Bool, true, false, cond}
 use mathlib.Core.List.{List, []}
 use Prim.Native.Nat.{ℕ, zero, suc, _+_, _*_, _-_, _%_, _≤_, _<_}
-use native.Mathlib.Nat.{add-zero, zero-add, add-suc, mul-zero, zero-mul, mul-one, one-mul, zero-mod, mod-eq-of-lt}
+use native.Mathlib.Nat.{add-zero, zero-add, mul-zero, zero-mul, mul-one, one-mul, zero-mod, mod-eq-of-lt}
 use native.Mathlib.Omega.{arith}
 use lib.Dec.{eqb}
-use lib.ListN.{getD, set, length-replicate}
+use lib.ListN.{getD}
 use borrow.Author.Tests.{le-leb, lt-leb, eq-eqb, ne-eqb}
-use Rattle.forms.specs.Numbers.{total, order-limit}
-use Rattle.forms.specs.Tests.{total-suc, total-equal, total-of-zeros}
+use Rattle.forms.specs.Numbers.{total}
+use Rattle.forms.specs.Tests.{total-suc, total-equal, total-of-zeros, total-short}
 use Rattle.forms.specs.Polynomials.{Coefficients}
 use Rattle.forms.specs.ClosedForms.{opposite}
 use Rattle.matrices.specs.Matrices.{cell}
 use Rattle.basis.specs.State.{Array, State}
-use Rattle.entries.specs.Heads.{begins}
+use Rattle.heads.specs.Heads.{begins}
 use Rattle.entries.specs.Coefficients.{block-coefficient, P-coefficient, PI-coefficient, head-sum, Q-coefficient, QI-coefficient, closed-coefficient}
 
 -- the polynomial of a block
@@ -64,10 +64,6 @@ module _ (p : ℕ) (F T : Array) (r i : ℕ) where
   PI-short k l = simp (ne-eqb k 0 (λ q. omega arith), ne-eqb k 1 (λ q. omega arith))
 
 -- Q, in the column of a row that begins a block
-total-short : (m : ℕ) (g : ℕ → ℕ) → ((s : ℕ) → m ≤ s → g s ≡ 0) → (d : ℕ) → total (m + d) g ≡ total m g
-total-short m g h zero = ap (λ (z : ℕ). total z g) (add-zero m)
-total-short m g h (suc d) = ap (λ (z : ℕ). total z g) (add-suc m d) ∙ total-suc (m + d) g ∙ ap₂ _+_ (total-short m g h d) (h (m + d) (omega arith)) ∙ add-zero _
-
 module _ (p : ℕ) (F T : Array) (end r i k : ℕ) where
   term : ℕ → ℕ
   term s = cell T r (i + s) * block-coefficient p F end (i + s + 1 + k)

@@ -1,4 +1,3 @@
-pub mod Heads
 pub mod Coefficients
 pub mod Entries
 pub mod Listing

@@ -1,3 +1,2 @@
 // The entries of D, P, Q and their inverses, read off F, T and the inverse of T.
-pub mod heads; // the blocks of the Frobenius form, and the order of the rows of D
 pub mod closed; // D, P, Q and their inverses, entry by entry

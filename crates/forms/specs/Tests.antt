@@ -1,7 +1,8 @@
 -- The laws of tests and questions, once each: when they hold, when they are fine, and which refusal they come to.
 use mathlib.Core.Path.{_≡_, refl, sym, _∙_, ap, ap₂, subst}
 use mathlib.Core.Bool.{Bool, true, false, cond, _&&_}
-use Prim.Native.Nat.{ℕ, zero, suc, _+_, _<_}
+use Prim.Native.Nat.{ℕ, zero, suc, _+_, _≤_, _<_}
+use native.Mathlib.Nat.{add-zero, add-suc}
 use native.Mathlib.Decide.{ℕ-discrete}
 use native.Mathlib.Omega.{arith}
 use lib.Dec.{T, eqb, eqb-refl}
@@ -54,6 +55,11 @@ pub total-of-zeros : (n : ℕ) (f : ℕ → ℕ) → ((i : ℕ) → i < n → f 
 unfolding total
 total-of-zeros zero f h = refl
 total-of-zeros (suc n) f h = ap₂ _+_ (total-of-zeros n f (λ i l. h i (omega arith))) (h n (omega arith))
+
+-- nothing is added from m on
+pub total-short : (m : ℕ) (f : ℕ → ℕ) → ((i : ℕ) → m ≤ i → f i ≡ 0) → (d : ℕ) → total (m + d) f ≡ total m f
+total-short m f h zero = ap (λ (x : ℕ). total x f) (add-zero m)
+total-short m f h (suc d) = ap (λ (x : ℕ). total x f) (add-suc m d) ∙ total-suc (m + d) f ∙ ap₂ _+_ (total-short m f h d) (h (m + d) (omega arith)) ∙ add-zero _
 
 -- a refusal is not fine
 pub refuse-not-fine : (number place : ℕ) → refuse number place ≡ fine → ⊥

@@ -18,7 +18,7 @@ use Rattle.forms.specs.BlockPermutation.{ones, to, from, to-head, to-other-belo
 use Rattle.forms.specs.FrobeniusEntries.{frobenius-last, frobenius-head, frobenius-next}
 use Rattle.matrices.specs.Matrices.{cell}
 use Rattle.basis.specs.State.{Array}
-use Rattle.entries.specs.Heads.{begins, LastRow, other, other-head, other-row, others, others-most, no-others, place, place-head, place-other, Ordered}
+use Rattle.heads.specs.Heads.{begins, LastRow, other, other-head, other-row, others, others-most, no-others, place, place-head, place-other, Ordered}
 use Rattle.entries.specs.Coefficients.{block-coefficient}
 use Rattle.payloads.specs.Diagonals.{DiagonalOf}
 

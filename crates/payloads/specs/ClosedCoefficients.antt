@@ -17,7 +17,7 @@ use Rattle.forms.specs.BlockPermutation.{to, from, to-head, to-other-below, one
 use Rattle.forms.specs.ClosedForms.{opposite, P-row, PI-column, Q-column, QI-row, closed-P, closed-PI, closed-Q, closed-QI}
 use Rattle.matrices.specs.Matrices.{cell}
 use Rattle.basis.specs.State.{Array, State}
-use Rattle.entries.specs.Heads.{begins, LastRows, Ordered}
+use Rattle.heads.specs.Heads.{begins, LastRows, Ordered}
 use Rattle.entries.specs.Coefficients.{block-coefficient, D-coefficient, D-entry, P-coefficient, PI-coefficient, head-sum, Q-coefficient, QI-coefficient, closed-coefficient, side, closed-entry}
 use Rattle.payloads.specs.Diagonals.{DiagonalOf}
 use Rattle.payloads.specs.Blocks.{begins-is, last-is, coefficient-is, from-is}

@@ -29,7 +29,7 @@ use Rattle.forms.specs.Certifying.{Decomposes, closed-certificate, closed-forms
 use Rattle.matrices.specs.Matrices.{cell, matrix, FieldMatrix}
 use Rattle.basis.specs.State.{Array, State, Fields}
 use Rattle.elimination.specs.Reduced.{Reduced}
-use Rattle.entries.specs.Heads.{LastRows, Ordered}
+use Rattle.heads.specs.Heads.{LastRows, Ordered}
 use Rattle.entries.specs.Coefficients.{Small, SmallState, Tables, D-entry, closed-entry}
 use Rattle.entries.specs.Listing.{listed-equal, joined-equal, matrix-rows, polynomial-rows, polynomials-listed-equal, diagonal-listed, diagonal-rows, diagonal-listed-residues, diagonal-of-listed}
 use Rattle.payloads.specs.Diagonals.{DiagonalOf, diagonal-of-form}

@@ -17,7 +17,7 @@ use Rattle.matrices.specs.Loading.{loaded, loaded-is}
 use Rattle.matrices.specs.Matrices.{cell, matrix, matrix-inside, FieldMatrix}
 use Rattle.matrices.specs.Products.{Multiplied}
 use Rattle.matrices.specs.Rows.{IsIdentity}
-use Rattle.rules.specs.Searches.{every-equal}
+use Rattle.products.specs.Searches.{every-equal}
 
 -- the payload of a field matrix
 pub record FieldPayload (n : ℕ) (s : List ℕ) : Type 0 where

@@ -1,7 +1,3 @@
-pub mod Sums
-pub mod Indices
-pub mod Products
-pub mod Searches
 pub mod Smith
 pub mod SmithEntries
 pub mod Diagonal

@@ -14,9 +14,9 @@ use Rattle.forms.specs.Numbers.{at, total, order-limit}
 use Rattle.forms.specs.Polynomials.{Coefficients, convolution}
 use Rattle.forms.specs.Matrices.{Entries, PolynomialEntries, matrix, polynomial-matrix, diagonal, unit, diagonal-matrix, characteristic, polynomial-product}
 use Rattle.forms.specs.Tests.{cond-holds, cond-fails, equal-holds, total-suc, total-equal, total-of-zeros}
-use Rattle.rules.specs.Indices.{Inside}
-use Rattle.rules.specs.Sums.{term-limit, product-limit, room, coefficients, coefficients-small, shifted, shifted-inside, shifted-outside, Plus, total-small}
-use Rattle.rules.specs.Products.{same-modulo, Holding, holding-nothing, holding-plus, entry-coefficients}
+use Rattle.products.specs.Indices.{Inside}
+use Rattle.products.specs.Sums.{term-limit, product-limit, room, coefficients, coefficients-small, shifted, shifted-inside, shifted-outside, Plus, total-small}
+use Rattle.products.specs.Products.{same-modulo, Holding, holding-nothing, holding-plus, entry-coefficients}
 
 -- sums with one term, and of sums
 total-single : (n : ℕ) (f : ℕ → ℕ) (i : ℕ) → i < n → ((l : ℕ) → l ≢ i → f l ≡ 0) → total n f ≡ f i

@@ -6,7 +6,7 @@ ghost use Rattle.forms.specs.Numbers.{at, total, every, order-limit};
 ghost use Rattle.forms.specs.Polynomials.{degree, monic, divides};
 ghost use Rattle.forms.specs.Matrices.{diagonal};
 ghost use Rattle.rules.specs.Diagonal.{DiagonalPayload, MonicPayload, Degrees};
-ghost use Rattle.rules.specs.Searches.{failing};
+ghost use Rattle.products.specs.Searches.{failing};
 use forms::ORDER;
 use polynomials::from_coefficients;
 

@@ -5,7 +5,7 @@ ghost use Rattle.forms.specs.Numbers.{order-limit};
 ghost use Rattle.forms.specs.Matrices.{matrix, unit, field-product};
 ghost use Rattle.forms.specs.Rules.{field-equal};
 ghost use Rattle.rules.specs.FieldRules.{BasePayloads, SimilarPayloads, same-cells};
-ghost use Rattle.rules.specs.Searches.{failing};
+ghost use Rattle.products.specs.Searches.{failing};
 use matrices::Mat;
 use matrices::identity;
 use matrices::loading::field_matrix;

@@ -7,7 +7,7 @@ ghost use Rattle.forms.specs.Frobenius.{companion, frobenius};
 ghost use Rattle.forms.specs.Rules.{field-equal};
 ghost use Rattle.rules.specs.Diagonal.{DiagonalPayload, Degrees};
 ghost use Rattle.rules.specs.FrobeniusSearch.{CompanionPlace, FrobeniusPayloads};
-ghost use Rattle.rules.specs.Searches.{failing};
+ghost use Rattle.products.specs.Searches.{failing};
 use crate::diagonal::polynomial_start;
 use forms::ORDER;
 use matrices::loading::field_entry;

@@ -2,5 +2,4 @@
 pub mod diagonal; // rules 1 to 3
 pub mod field; // rules 8 and 9
 pub mod frobenius; // rule 7
-pub mod products; // products of polynomial matrices, entry by entry: rules 4 and 5
 pub mod smith; // rule 6

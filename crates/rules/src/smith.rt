@@ -3,18 +3,18 @@ ghost use mathlib.Core.Path.{_≡_};
 ghost use Prim.Native.Nat.{_+_, _<_};
 ghost use Rattle.forms.specs.Matrices.{matrix, polynomial-matrix, polynomial-product, characteristic, diagonal, diagonal-matrix};
 ghost use Rattle.forms.specs.Rules.{polynomial-equal};
-ghost use Rattle.rules.specs.Indices.{Inside};
-ghost use Rattle.rules.specs.Products.{Holding};
-ghost use Rattle.rules.specs.Searches.{failing};
+ghost use Rattle.products.specs.Indices.{Inside};
+ghost use Rattle.products.specs.Products.{Holding};
+ghost use Rattle.products.specs.Searches.{failing};
 ghost use Rattle.rules.specs.SmithEntries.{Moving, Returning, SmithPayloads, smith-entry-test};
 use crate::diagonal::polynomial_start;
-use crate::products::TERMS;
-use crate::products::add_product;
-use crate::products::add_scaled;
-use crate::products::entry_start;
-use crate::products::is_equal;
 use matrices::loading::field_entry;
 use matrices::wide;
+use products::TERMS;
+use products::add_product;
+use products::add_scaled;
+use products::entry_start;
+use products::is_equal;
 
 // The entry (i, j) of P(XE-A): X times that of P, less row i of P times column j of A.
 fn moved_entry(left: &[u8], field: &[u8], i: usize, j: usize, n: usize, p: u32) -> [u32; TERMS]

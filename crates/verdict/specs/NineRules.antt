@@ -10,7 +10,7 @@ use Rattle.forms.specs.Answers.{Asked, fine, refuse, ask, each}
 use Rattle.forms.specs.Certificate.{Certificate}
 use Rattle.forms.specs.Rules.{rule}
 use Rattle.forms.specs.Tests.{ask-fine, fine-then, refuse-then, each-fine}
-use Rattle.rules.specs.Searches.{failing}
+use Rattle.products.specs.Searches.{failing}
 
 -- the first k rules
 abbrev pub rules-asked : Certificate → ℕ → Asked

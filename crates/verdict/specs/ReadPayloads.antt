@@ -18,7 +18,7 @@ use Rattle.forms.specs.Records.{offset-suc}
 use Rattle.forms.specs.Layouts.{records-read, reading-laid-out}
 use Rattle.forms.specs.Payloads.{MA-residues, DF-residues, PL-residues, PI-residues, QR-residues, QI-residues, FB-residues, TB-residues, TI-residues}
 use Rattle.rules.specs.Diagonal.{DiagonalPayload, MonicPayload}
-use Rattle.rules.specs.Products.{Inverses}
+use Rattle.products.specs.Products.{Inverses}
 use Rattle.rules.specs.SmithEntries.{SmithPayloads}
 use Rattle.rules.specs.FrobeniusSearch.{FrobeniusPayloads}
 use Rattle.rules.specs.FieldRules.{BasePayloads, SimilarPayloads}

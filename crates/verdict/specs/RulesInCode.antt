@@ -14,7 +14,7 @@ use Rattle.forms.specs.Reading.{reading, certificate-of}
 use Rattle.forms.specs.Rules.{field-equal, polynomial-equal, rule}
 use Rattle.forms.specs.Tests.{total-equal}
 use Rattle.forms.specs.Primes.{prime-means}
-use Rattle.rules.specs.Searches.{failing}
+use Rattle.products.specs.Searches.{failing}
 use Rattle.rules.specs.Diagonal.{Degrees}
 use Rattle.rules.specs.Smith.{smith-test}
 use Rattle.verdict.specs.ReadPayloads.{some-order, prime-p}

@@ -10,6 +10,7 @@ use certificate::reading::read_certificate;
 use finding::payload;
 use forms::Fault;
 use forms::Verdict;
+use products::inverse_rule;
 use rules::diagonal::chain_rule;
 use rules::diagonal::degrees_of;
 use rules::diagonal::degrees_rule;
@@ -17,7 +18,6 @@ use rules::diagonal::monic_rule;
 use rules::field::base_rule;
 use rules::field::similar_rule;
 use rules::frobenius::frobenius_rule;
-use rules::products::inverse_rule;
 use rules::smith::smith_rule;
 
 // Rules 1 to 3, of a certificate that is read. Here and below the answer is the first rule that fails, or 0.

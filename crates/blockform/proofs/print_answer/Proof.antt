@@ -1,3 +1,4 @@
+-- What was read has an order below the limit and a whole matrix.
 use borrow.Author.Needs.{needs}
 use lib.Dec.{lit<}
 use Rattle.forms.specs.Numbers.{at}
@@ -7,15 +8,6 @@ use Rattle.certificate.specs.ReadRecords.{good-read}
 use Rattle.blockform.specs.Read.{order-read, matrix-complete}
 use Rattle.blockform.proofs.print_answer.Statement.{statement}
 use Rattle.blockform.proofs.print_answer.Tie as tie
-use Rattle.blockform.proofs.print_answer.Reads as reads
-use Rattle.blockform.proofs.print_answer.Lts as lts
-use Rattle.answers.proofs.fault_number.Reads as fault-number-reads
-use Rattle.answers.proofs.fault_place.Reads as fault-place-reads
-use Rattle.blockform.proofs.print_forms.Reads as print-forms-reads
-use Rattle.finding.proofs.payload.Reads as payload-reads
-use Rattle.certificate.proofs.reading.byte.Reads as byte-reads
-use Rattle.certificate.proofs.reading.read_matrix.Reads as read-matrix-reads
-use Rattle.report.proofs.print_refusal.Reads as print-refusal-reads
 
 read-matrix-requires : tie.Need-read-matrix-requires
 read-matrix-requires c κs = search needs

@@ -1,3 +1,4 @@
+-- The payloads of D and F lie in the room of the largest certificate.
 use borrow.Author.Needs.{needs}
 use mathlib.Core.Path.{_∙_, ap}
 use lib.Dec.{lit<}
@@ -5,10 +6,6 @@ use lib.ListN.{length}
 use Rattle.blockform.specs.Read.{record-within, D-length, F-length}
 use Rattle.blockform.proofs.print_certificate.Statement.{statement}
 use Rattle.blockform.proofs.print_certificate.Tie as tie
-use Rattle.blockform.proofs.print_certificate.Reads as reads
-use Rattle.blockform.proofs.print_certificate.Lts as lts
-use Rattle.blockform.proofs.listing.print_listing.Reads as print-listing-reads
-use Rattle.finding.proofs.payload.Reads as payload-reads
 
 payload-requires : tie.Need-payload-requires
 payload-requires c κs =

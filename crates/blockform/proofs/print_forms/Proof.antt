@@ -1,15 +1,9 @@
+-- The room has the length of the largest certificate, before and after.
 use borrow.Author.Needs.{needs}
 use Rattle.forms.specs.Numbers.{total}
 use Rattle.forms.specs.Certificate.{size, offset}
 use Rattle.blockform.proofs.print_forms.Statement.{statement}
 use Rattle.blockform.proofs.print_forms.Tie as tie
-use Rattle.blockform.proofs.print_forms.Reads as reads
-use Rattle.blockform.proofs.print_forms.Lts as lts
-use Rattle.analysis.proofs.analysis.Reads as analysis-reads
-use Rattle.answers.proofs.analysed_number.Reads as analysed-number-reads
-use Rattle.answers.proofs.analysed_place.Reads as analysed-place-reads
-use Rattle.blockform.proofs.print_certificate.Reads as print-certificate-reads
-use Rattle.report.proofs.print_refusal.Reads as print-refusal-reads
 
 slice-aggregate-analysis : tie.Need-slice-aggregate-analysis
 slice-aggregate-analysis c = search needs

@@ -7,6 +7,7 @@ use Prim.Native.Nat.{ℕ, _+_, _*_, _-_, _≤_}
 use native.Mathlib.Nat.{mul-le-mul}
 use lib.ListN.{length, take, replicate}
 use lib.Seq.{length-take-le}
+use Rattle.forms.specs.Numbers.{order-limit}
 use Rattle.forms.specs.Certificate.{joined}
 use Rattle.forms.specs.Listed.{listed, listed-length, row-place}
 use Rattle.writing.specs.Put.{put}
@@ -39,7 +40,7 @@ slice-aggregate-put-bytes c = sym (length-take-le _ _ (omega (arith, mul-le-mul 
 
 put-bytes-requires : tie.Need-put-bytes-requires Inv-loop μ-loop
 put-bytes-requires c κs =
-    let many : length (take (c .before .before .before .args .n * c .before .before .before .args .n) (replicate {A = ℕ} 144 0)) ≡ c .before .before .before .args .n * c .before .before .before .args .n = length-take-le _ _ (omega (arith, mul-le-mul (c .before .before .before .pre .1) (c .before .before .before .pre .1))) in
+    let many : length (take (c .before .before .before .args .n * c .before .before .before .args .n) (replicate {A = ℕ} (order-limit * order-limit) 0)) ≡ c .before .before .before .args .n * c .before .before .before .args .n = length-take-le _ _ (omega (arith, mul-le-mul (c .before .before .before .pre .1) (c .before .before .before .pre .1))) in
     omega (arith, many, c .before .before .before .pre .2)
 
 loop-holds : tie.Need-loop-holds Inv-loop μ-loop
@@ -52,7 +53,7 @@ add-closed-entry : tie.Need-add-closed-entry Inv-loop μ-loop
 add-closed-entry c = omega (arith, row-place (c .before .before .loop .c) 0 (c .before .before .before .before .before .before .before .before .before .args .n) (c .before .before .before .before .before .before .before .before .before .args .n) (c .before .loop-test .taken) (omega (arith, c .before .loop-test .taken)), c .before .before .before .before .before .before .before .before .before .pre .2)
 
 closed-entry-requires : tie.Need-closed-entry-requires Inv-loop μ-loop
-closed-entry-requires c κs = (line-zeros (entries (c .before .before .before .before .before .before .before .before .before)) (c .before .before .before .before .before .before .before .before .before .args .n) (long (c .before .before .before .before .before .before .before .before .before)) ((zeros-there 144 (c .before .before .before .before .before .put-bytes .ensures) (mul-le-mul (c .before .before .before .before .before .before .before .before .before .pre .1) (c .before .before .before .before .before .before .before .before .before .pre .1)) (c .before .before .before .before .before .before .before .before .before .pre .2))) (c .before .loop-test .taken) (c .before .before .loop .inv .1) .room, c .before .before .before .before .before .before .before .before .before .pre .0, c .before .loop-test .taken, c .before .before .before .before .before .before .before .before .before .pre .1, c .before .before .before .before .before .before .before .before .before .pre .3, c .before .before .before .before .before .before .before .before .before .pre .4, c .before .before .before .before .before .before .before .before .before .pre .5)
+closed-entry-requires c κs = (line-zeros (entries (c .before .before .before .before .before .before .before .before .before)) (c .before .before .before .before .before .before .before .before .before .args .n) (long (c .before .before .before .before .before .before .before .before .before)) ((zeros-there (order-limit * order-limit) (c .before .before .before .before .before .put-bytes .ensures) (mul-le-mul (c .before .before .before .before .before .before .before .before .before .pre .1) (c .before .before .before .before .before .before .before .before .before .pre .1)) (c .before .before .before .before .before .before .before .before .before .pre .2))) (c .before .loop-test .taken) (c .before .before .loop .inv .1) .room, c .before .before .before .before .before .before .before .before .before .pre .0, c .before .loop-test .taken, c .before .before .before .before .before .before .before .before .before .pre .1, c .before .before .before .before .before .before .before .before .before .pre .3, c .before .before .before .before .before .before .before .before .before .pre .4, c .before .before .before .before .before .before .before .before .before .pre .5)
 
 add-c : tie.Need-add-c Inv-loop μ-loop
 add-c c = search needs
@@ -62,9 +63,9 @@ loop-less c = search needs
 
 loop-again : tie.Need-loop-again Inv-loop μ-loop
 loop-again c =
-    let free = line-zeros (entries (c .before .before .before .before .before .before .before .before .before .before .before .before)) (c .before .before .before .before .before .before .before .before .before .before .before .before .args .n) (long (c .before .before .before .before .before .before .before .before .before .before .before .before)) ((zeros-there 144 (c .before .before .before .before .before .before .before .before .put-bytes .ensures) (mul-le-mul (c .before .before .before .before .before .before .before .before .before .before .before .before .pre .1) (c .before .before .before .before .before .before .before .before .before .before .before .before .pre .1)) (c .before .before .before .before .before .before .before .before .before .before .before .before .pre .2))) (c .before .before .before .before .loop-test .taken) (c .before .before .before .before .before .loop .inv .1) in (
+    let free = line-zeros (entries (c .before .before .before .before .before .before .before .before .before .before .before .before)) (c .before .before .before .before .before .before .before .before .before .before .before .before .args .n) (long (c .before .before .before .before .before .before .before .before .before .before .before .before)) ((zeros-there (order-limit * order-limit) (c .before .before .before .before .before .before .before .before .put-bytes .ensures) (mul-le-mul (c .before .before .before .before .before .before .before .before .before .before .before .before .pre .1) (c .before .before .before .before .before .before .before .before .before .before .before .before .pre .1)) (c .before .before .before .before .before .before .before .before .before .before .before .before .pre .2))) (c .before .before .before .before .loop-test .taken) (c .before .before .before .before .before .loop .inv .1) in (
       search needs,
-      line-turn (entries (c .before .before .before .before .before .before .before .before .before .before .before .before)) (c .before .before .before .before .before .before .before .before .before .before .before .before .args .n) (long (c .before .before .before .before .before .before .before .before .before .before .before .before)) ((zeros-there 144 (c .before .before .before .before .before .before .before .before .put-bytes .ensures) (mul-le-mul (c .before .before .before .before .before .before .before .before .before .before .before .before .pre .1) (c .before .before .before .before .before .before .before .before .before .before .before .before .pre .1)) (c .before .before .before .before .before .before .before .before .before .before .before .before .pre .2))) (c .before .before .before .before .loop-test .taken) (c .before .before .before .before .before .loop .inv .1) (short-put-whole _ _ _ _ free (c .before .before .closed-entry .ensures)),
+      line-turn (entries (c .before .before .before .before .before .before .before .before .before .before .before .before)) (c .before .before .before .before .before .before .before .before .before .before .before .before .args .n) (long (c .before .before .before .before .before .before .before .before .before .before .before .before)) ((zeros-there (order-limit * order-limit) (c .before .before .before .before .before .before .before .before .put-bytes .ensures) (mul-le-mul (c .before .before .before .before .before .before .before .before .before .before .before .before .pre .1) (c .before .before .before .before .before .before .before .before .before .before .before .before .pre .1)) (c .before .before .before .before .before .before .before .before .before .before .before .before .pre .2))) (c .before .before .before .before .loop-test .taken) (c .before .before .before .before .before .loop .inv .1) (short-put-whole _ _ _ _ free (c .before .before .closed-entry .ensures)),
       omega (arith, c .before .before .closed-entry .kept, c .before .before .before .before .before .loop .inv .2),
     )
 

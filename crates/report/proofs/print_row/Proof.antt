@@ -1,12 +1,10 @@
+-- The numbers are printed from the first on.
 use borrow.Author.Needs.{needs}
 use Prim.Native.Nat.{_≤_, _-_}
 use native.Mathlib.Omega.{arith}
 use lib.ListN.{length}
 use Rattle.report.proofs.print_row.Statement.{statement}
 use Rattle.report.proofs.print_row.Tie as tie
-use Rattle.report.proofs.print_row.Reads as reads
-use Rattle.report.proofs.print_row.Lts as lts
-use Rattle.report.proofs.print_next.Reads as print-next-reads
 
 abbrev Inv-loop : tie.InvT-loop
 Inv-loop numbers i₀ i = i ≤ length numbers

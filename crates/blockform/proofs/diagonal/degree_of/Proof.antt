@@ -1,3 +1,4 @@
+-- The coefficients from count on are zero.
 use borrow.Author.Needs.{needs}
 use mathlib.Core.Path.{_≡_, refl, sym, _∙_}
 use Prim.Native.Nat.{_≤_, _-_}
@@ -8,8 +9,6 @@ use Rattle.forms.specs.Polynomials.{degree}
 use Rattle.blockform.specs.Diagonal.{degree-found, degree-before, degree-constant}
 use Rattle.blockform.proofs.diagonal.degree_of.Statement.{statement}
 use Rattle.blockform.proofs.diagonal.degree_of.Tie as tie
-use Rattle.blockform.proofs.diagonal.degree_of.Reads as reads
-use Rattle.blockform.proofs.diagonal.degree_of.Lts as lts
 
 abbrev Inv-loop : tie.InvT-loop
 Inv-loop f count₀ count = (count ≤ length f) × (degree (length f - 1) (at f) ≡ degree (count - 1) (at f))

@@ -1,3 +1,4 @@
+-- The first k coefficients are zero.
 use borrow.Author.Needs.{needs}
 use borrow.Author.Count.{below-more}
 use mathlib.Core.Path.{_≡_, sym}
@@ -8,8 +9,6 @@ use Rattle.forms.specs.Numbers.{at}
 use Rattle.blockform.specs.Diagonal.{exponent-found}
 use Rattle.blockform.proofs.diagonal.exponent_of.Statement.{statement}
 use Rattle.blockform.proofs.diagonal.exponent_of.Tie as tie
-use Rattle.blockform.proofs.diagonal.exponent_of.Reads as reads
-use Rattle.blockform.proofs.diagonal.exponent_of.Lts as lts
 
 abbrev Inv-loop : tie.InvT-loop
 Inv-loop f k₀ k = (k ≤ length f) × ((i : ℕ) → i < k → at f i ≡ 0)

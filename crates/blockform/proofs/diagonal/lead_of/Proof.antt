@@ -1,3 +1,4 @@
+-- The sum of the exponents of the first i polynomials.
 use borrow.Author.Needs.{needs}
 use mathlib.Core.Path.{_≡_, sym, _∙_, ap}
 use Prim.Native.Nat.{suc, _+_, _*_, _-_, _≤_}
@@ -8,10 +9,6 @@ use Rattle.blockform.specs.Diagonal.{exponent-limited, exponents, no-exp
 use native.Mathlib.Omega.{arith}
 use Rattle.blockform.proofs.diagonal.lead_of.Statement.{statement}
 use Rattle.blockform.proofs.diagonal.lead_of.Tie as tie
-use Rattle.blockform.proofs.diagonal.lead_of.Reads as reads
-use Rattle.blockform.proofs.diagonal.lead_of.Lts as lts
-use Rattle.blockform.proofs.diagonal.exponent_of.Reads as exponent-of-reads
-use Rattle.blockform.proofs.diagonal.row.Reads as row-reads
 
 abbrev Inv-loop : tie.InvT-loop
 Inv-loop d n sum₀ i₀ sum i = (i ≤ n) × (sum ≡ exponents n d i) × (sum ≤ i * 256)

@@ -1,3 +1,4 @@
+-- The row is a part of the whole.
 use borrow.Author.Needs.{needs}
 use mathlib.Core.Path.{_≡_, ap}
 use Prim.Native.Nat.{ℕ, _+_, _*_, _-_}
@@ -6,8 +7,6 @@ use lib.ListN.{take, drop}
 use Rattle.blockform.specs.Rows.{row-of}
 use Rattle.blockform.proofs.diagonal.row.Statement.{statement}
 use Rattle.blockform.proofs.diagonal.row.Tie as tie
-use Rattle.blockform.proofs.diagonal.row.Reads as reads
-use Rattle.blockform.proofs.diagonal.row.Lts as lts
 
 mul-start : tie.Need-mul-start
 mul-start c = search needs

@@ -1,13 +1,10 @@
+-- Each row of D is inside, and holds n + 1 coefficients.
 use borrow.Author.Needs.{needs}
 use Prim.Native.Nat.{_+_, _≤_, _-_}
 use native.Mathlib.Omega.{arith}
 use Rattle.blockform.specs.Rows.{has-row, row-length}
 use Rattle.blockform.proofs.listing.print_diagonal.Statement.{statement}
 use Rattle.blockform.proofs.listing.print_diagonal.Tie as tie
-use Rattle.blockform.proofs.listing.print_diagonal.Reads as reads
-use Rattle.blockform.proofs.listing.print_diagonal.Lts as lts
-use Rattle.blockform.proofs.diagonal.row.Reads as row-reads
-use Rattle.blockform.proofs.listing.print_polynomial.Reads as print-polynomial-reads
 
 abbrev Inv-loop : tie.InvT-loop
 Inv-loop d n i₀ i = i ≤ n

@@ -1,13 +1,10 @@
+-- Each row of F is inside.
 use borrow.Author.Needs.{needs}
 use Prim.Native.Nat.{_≤_, _-_}
 use native.Mathlib.Omega.{arith}
 use Rattle.blockform.specs.Rows.{has-row}
 use Rattle.blockform.proofs.listing.print_frobenius.Statement.{statement}
 use Rattle.blockform.proofs.listing.print_frobenius.Tie as tie
-use Rattle.blockform.proofs.listing.print_frobenius.Reads as reads
-use Rattle.blockform.proofs.listing.print_frobenius.Lts as lts
-use Rattle.blockform.proofs.diagonal.row.Reads as row-reads
-use Rattle.blockform.proofs.listing.print_frobenius_row.Reads as print-frobenius-row-reads
 
 abbrev Inv-loop : tie.InvT-loop
 Inv-loop f n i₀ i = i ≤ n

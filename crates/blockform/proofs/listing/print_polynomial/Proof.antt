@@ -1,3 +1,4 @@
+-- The degree is below the number of coefficients, so the leading one is among them.
 use borrow.Author.Needs.{needs}
 use mathlib.Core.Path.{sym}
 use Prim.Native.Nat.{_+_, _-_}
@@ -8,10 +9,6 @@ use Rattle.forms.specs.Numbers.{at}
 use Rattle.forms.specs.Bounds.{degree-limited}
 use Rattle.blockform.proofs.listing.print_polynomial.Statement.{statement}
 use Rattle.blockform.proofs.listing.print_polynomial.Tie as tie
-use Rattle.blockform.proofs.listing.print_polynomial.Reads as reads
-use Rattle.blockform.proofs.listing.print_polynomial.Lts as lts
-use Rattle.blockform.proofs.diagonal.degree_of.Reads as degree-of-reads
-use Rattle.blockform.proofs.listing.print_line.Reads as print-line-reads
 
 degree-of-requires : tie.Need-degree-of-requires
 degree-of-requires c κs = search needs

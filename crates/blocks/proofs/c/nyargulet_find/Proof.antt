@@ -1,3 +1,4 @@
+-- The part is empty, or the payload of the record that the mark stands for.
 use borrow.Author.Needs.{needs}
 use mathlib.Core.Path.{refl, _∙_, ap}
 use Prim.Native.Nat.{ℕ, _+_}
@@ -7,12 +8,6 @@ use Rattle.certificate.specs.Sizes.{offset-small}
 use Rattle.blocks.specs.Finding.{found-nothing, found-record, found-something}
 use Rattle.blocks.proofs.c.nyargulet_find.Statement.{statement}
 use Rattle.blocks.proofs.c.nyargulet_find.Tie as tie
-use Rattle.blocks.proofs.c.nyargulet_find.Reads as reads
-use Rattle.blocks.proofs.c.nyargulet_find.Lts as lts
-use Rattle.blocks.proofs.find.Reads as find-reads
-use Rattle.finding.proofs.record_marked.Reads as record-marked-reads
-use Rattle.certificate.proofs.reading.byte.Reads as byte-reads
-use Rattle.certificate.proofs.records.record_start.Reads as record-start-reads
 
 find-requires : tie.Need-find-requires
 find-requires c κs = search needs

@@ -2,6 +2,7 @@
 use borrow.Author.Needs.{needs}
 use mathlib.Core.Path.{sym, _∙_}
 use borrow.Author.Tests.{not-true, not-false}
+use Rattle.forms.specs.Numbers.{order-limit}
 use Rattle.forms.specs.Answers.{ask}
 use Rattle.forms.specs.Reading.{order-and-prime}
 use mathlib.Core.Bool.{Bool, _&&_}
@@ -11,7 +12,7 @@ use Rattle.certificate.proofs.limits.order_and_prime.Statement.{stateme
 use Rattle.certificate.proofs.limits.order_and_prime.Tie as tie
 
 abbrev ordered : ℕ → Bool
-ordered n = leb 1 n && leb n 12
+ordered n = leb 1 n && leb n order-limit
 
 returns : tie.Need-returns
 unfolding order-and-prime ask

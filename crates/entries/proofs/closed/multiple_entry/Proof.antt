@@ -10,7 +10,7 @@ use lib.ListN.{length}
 use Rattle.forms.specs.Listed.{listed}
 use Rattle.matrices.specs.Matrices.{cell}
 use Rattle.writing.specs.Put.{Puts}
-use Rattle.entries.specs.Heads.{begins-not-first}
+use Rattle.heads.specs.Heads.{begins-not-first}
 use Rattle.entries.specs.Coefficients.{QI-coefficient}
 use Rattle.entries.specs.Entries.{only-first, QI-inside, QI-leading, QI-short}
 use Rattle.entries.specs.PutEntries.{coefficients-none, coefficients-more, coefficients-next, coefficients-end}

@@ -2,7 +2,7 @@
 use borrow.Author.Needs.{needs}
 use native.Mathlib.Omega.{arith}
 use mathlib.Core.Path.{sym, _∙_}
-use Rattle.entries.specs.Heads.{begins-not-first}
+use Rattle.heads.specs.Heads.{begins-not-first}
 use Rattle.entries.specs.Entries.{PI-first, PI-second, PI-head-short, PI-short}
 use Rattle.entries.specs.PutEntries.{one-coefficient, coefficients-none, coefficients-more, coefficients-end}
 use Rattle.entries.proofs.closed.pi_entry.Statement.{statement}

@@ -2,7 +2,7 @@
 use borrow.Author.Needs.{needs}
 use native.Mathlib.Omega.{arith}
 use mathlib.Core.Path.{sym, _∙_}
-use Rattle.entries.specs.Heads.{begins-not-first}
+use Rattle.heads.specs.Heads.{begins-not-first}
 use Rattle.entries.specs.Entries.{QI-head-first, QI-head-short, QI-zero-first, QI-zero-short}
 use Rattle.entries.specs.PutEntries.{one-coefficient}
 use Rattle.entries.proofs.closed.qi_entry.Statement.{statement}

@@ -7,7 +7,7 @@ use Rattle.forms.specs.Numbers.{every}
 use Rattle.forms.specs.Polynomials.{divides}
 use Rattle.forms.specs.Matrices.{diagonal}
 use Rattle.matrices.specs.Filling.{every-start, every-turn}
-use Rattle.rules.specs.Searches.{all-passed, one-failed}
+use Rattle.products.specs.Searches.{all-passed, one-failed}
 use borrow.Author.Needs.{needs}
 use native.Mathlib.Omega.{arith}
 use Rattle.rules.proofs.diagonal.chain_rule.Statement.{statement}

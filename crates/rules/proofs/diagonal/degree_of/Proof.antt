@@ -4,7 +4,7 @@ use Prim.Native.Nat.{ℕ, _≤_}
 use Rattle.forms.specs.Polynomials.{degree}
 use Rattle.forms.specs.Matrices.{diagonal}
 use Rattle.rules.specs.Diagonal.{degree-zero, degree-less, degree-here, diagonal-from}
-use Rattle.rules.specs.Indices.{diagonal-size-small}
+use Rattle.products.specs.Indices.{diagonal-size-small}
 use borrow.Author.Needs.{needs}
 use native.Mathlib.Omega.{arith}
 use Rattle.rules.proofs.diagonal.degree_of.Statement.{statement}

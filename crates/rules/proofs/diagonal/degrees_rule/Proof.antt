@@ -4,16 +4,16 @@ use mathlib.Core.Bool.{Bool}
 use Prim.Native.Nat.{ℕ, _+_, _*_, _-_, _≤_}
 use native.Mathlib.Nat.{le-antisymm}
 use borrow.Author.Tests.{eq-eqb, ne-eqb}
-use Rattle.forms.specs.Numbers.{at, total}
+use Rattle.forms.specs.Numbers.{at, total, order-limit}
 use Rattle.matrices.specs.Filling.{total-turn}
-use Rattle.rules.specs.Searches.{failing}
+use Rattle.products.specs.Searches.{failing}
 use borrow.Author.Needs.{needs}
 use native.Mathlib.Omega.{arith}
 use Rattle.rules.proofs.diagonal.degrees_rule.Statement.{statement}
 use Rattle.rules.proofs.diagonal.degrees_rule.Tie as tie
 
 abbrev Inv-loop : tie.InvT-loop
-Inv-loop n degrees sum₀ i₀ sum i = (i ≤ n) × (sum ≤ 12 * i) × (sum ≡ total i (at degrees))
+Inv-loop n degrees sum₀ i₀ sum i = (i ≤ n) × (sum ≤ order-limit * i) × (sum ≡ total i (at degrees))
 
 abbrev μ-loop : tie.MeasureT-loop
 μ-loop n degrees sum₀ i₀ sum i = n - i

@@ -8,9 +8,9 @@ use Rattle.forms.specs.Polynomials.{monic}
 use Rattle.forms.specs.Matrices.{diagonal}
 use Rattle.forms.specs.Bounds.{degree-limited}
 use Rattle.matrices.specs.Filling.{every-start, every-turn}
-use Rattle.rules.specs.Indices.{diagonal-size-small}
+use Rattle.products.specs.Indices.{diagonal-size-small}
 use Rattle.rules.specs.Diagonal.{monic-at}
-use Rattle.rules.specs.Searches.{all-passed, one-failed}
+use Rattle.products.specs.Searches.{all-passed, one-failed}
 use borrow.Author.Needs.{needs}
 use native.Mathlib.Omega.{arith}
 use Rattle.rules.proofs.diagonal.monic_rule.Statement.{statement}

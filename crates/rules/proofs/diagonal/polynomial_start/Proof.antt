@@ -2,7 +2,7 @@
 use mathlib.Core.Path.{_≡_, ap}
 use Prim.Native.Nat.{ℕ, suc, _+_, _*_}
 use native.Mathlib.Numerals.{add-one}
-use Rattle.rules.specs.Indices.{diagonal-inside, diagonal-size-small}
+use Rattle.products.specs.Indices.{diagonal-inside, diagonal-size-small}
 use borrow.Author.Needs.{needs}
 use native.Mathlib.Omega.{arith}
 use Rattle.rules.proofs.diagonal.polynomial_start.Statement.{statement}

@@ -7,7 +7,7 @@ use borrow.Author.Tests.{eq-eqb, ne-eqb}
 use Rattle.forms.specs.Numbers.{every}
 use Rattle.matrices.specs.Filling.{every-start, every-turn}
 use Rattle.matrices.specs.Matrices.{cell}
-use Rattle.rules.specs.Searches.{every-all, all-passed, entry-failed}
+use Rattle.products.specs.Searches.{every-all, all-passed, entry-failed}
 use borrow.Author.Needs.{needs}
 use Rattle.rules.proofs.field.differing.Statement.{statement}
 use Rattle.rules.proofs.field.differing.Tie as tie

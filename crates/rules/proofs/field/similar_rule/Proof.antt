@@ -2,7 +2,7 @@
 use mathlib.Core.Path.{_∙_, ap}
 use mathlib.Core.Bool.{Bool}
 use Rattle.rules.specs.FieldRules.{cells-test, payload-product}
-use Rattle.rules.specs.Searches.{failing}
+use Rattle.products.specs.Searches.{failing}
 use borrow.Author.Needs.{needs}
 use Rattle.rules.proofs.field.similar_rule.Statement.{statement}
 use Rattle.rules.proofs.field.similar_rule.Tie as tie

@@ -1,5 +1,5 @@
 -- The three cases of the block: its last column, the ones below its diagonal, and zero.
-use Rattle.rules.specs.Indices.{diagonal-size-small}
+use Rattle.products.specs.Indices.{diagonal-size-small}
 use Rattle.rules.specs.Diagonal.{diagonal-from}
 use Rattle.rules.specs.FrobeniusSearch.{companion-last, companion-below, companion-zero}
 use Prim.Native.Nat.{_+_}

@@ -5,7 +5,7 @@ use Prim.Native.Nat.{_-_, _≤_}
 use borrow.Author.Tests.{eq-eqb, ne-eqb}
 use Rattle.forms.specs.Numbers.{every}
 use Rattle.matrices.specs.Filling.{every-start, every-turn}
-use Rattle.rules.specs.Searches.{every-all, all-passed, entry-failed}
+use Rattle.products.specs.Searches.{every-all, all-passed, entry-failed}
 use Rattle.rules.specs.FrobeniusSearch.{built-test, built-entry}
 use borrow.Author.Needs.{needs}
 use native.Mathlib.Omega.{arith}

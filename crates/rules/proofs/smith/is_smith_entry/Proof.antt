@@ -1,7 +1,7 @@
 -- The two entries, each summed on its own, are compared.
 use mathlib.Core.Path.{_∙_}
 use Prim.Native.Nat.{suc, _*_}
-use Rattle.rules.specs.Products.{holding-same}
+use Rattle.products.specs.Products.{holding-same}
 use native.Mathlib.Omega.{arith}
 use Rattle.rules.proofs.smith.is_smith_entry.Statement.{statement}
 use Rattle.rules.proofs.smith.is_smith_entry.Tie as tie

@@ -2,7 +2,7 @@
 use mathlib.Core.Path.{_∙_, ap}
 use Prim.Native.Nat.{ℕ, _-_, _≤_, _<_}
 use Rattle.forms.specs.Matrices.{matrix, polynomial-matrix}
-use Rattle.rules.specs.Products.{Holding, holding-nothing, entry-coefficients}
+use Rattle.products.specs.Products.{Holding, holding-nothing, entry-coefficients}
 use Rattle.rules.specs.SmithEntries.{moved-sum, moved-none, moved-more, moved-all, moved-low}
 use borrow.Author.Needs.{needs}
 use native.Mathlib.Omega.{arith}

@@ -1,6 +1,6 @@
 -- D is diagonal, so the entry is one product of polynomials.
 use native.Mathlib.Numerals.{add-one}
-use Rattle.rules.specs.Products.{holding-nothing}
+use Rattle.products.specs.Products.{holding-nothing}
 use Rattle.rules.specs.SmithEntries.{returned-entry}
 use borrow.Author.Needs.{needs}
 use native.Mathlib.Omega.{arith}

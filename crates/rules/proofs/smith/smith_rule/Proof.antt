@@ -3,7 +3,7 @@ use mathlib.Core.Path.{_≡_, sym, _∙_}
 use Prim.Native.Nat.{_-_, _≤_}
 use borrow.Author.Tests.{not-true, not-false}
 use Rattle.rules.specs.SmithEntries.{smith-entry-test}
-use Rattle.rules.specs.Searches.{every-all, all-passed, entry-failed}
+use Rattle.products.specs.Searches.{every-all, all-passed, entry-failed}
 use Rattle.forms.specs.Numbers.{every}
 use Rattle.matrices.specs.Filling.{every-start, every-turn}
 use mathlib.Core.Bool.{true}

@@ -1,0 +1,4 @@
+pub mod Reordering
+pub mod Rotation
+pub mod Exchange
+pub mod Orders
