@@ -143,9 +143,9 @@ pub fn replace(s: State, at: usize, w: Row, n: usize, p: u8) -> State
 }
 
 // Column j.
-pub fn column(b: Mat, j: usize, n: usize) -> Row
+pub fn column(b: &Mat, j: usize, n: usize) -> Row
     requires { ⌜ (n ≤ order-limit) × (j < order-limit) ⌝ }
-    ensures { λ r. ⌜ r ≡ column-of n b j ⌝ }
+    ensures { λ r. ⌜ r ≡ column-of n (now (b .entry)) j ⌝ }
 {
     let mut r = [0u8; ORDER];
     let mut i = 0;

@@ -69,9 +69,9 @@ fn wipe(s: State, a: usize, m: usize, k: usize, n: usize, p: u8) -> State
     }
     let v = tail(x, m, k, n, p);
     let u = with_entry([0u8; ORDER], a, p - 1);
-    let c = plus_outer(s[0], column(s[0], a, n), v, n, p);
+    let c = plus_outer(s[0], column(&s[0], a, n), v, n, p);
     let b = plus_outer(c, u, combination(v, c, n, p), n, p);
-    let t = plus_outer(s[1], column(s[1], a, n), v, n, p);
+    let t = plus_outer(s[1], column(&s[1], a, n), v, n, p);
     let i = plus_outer(s[2], u, combination(v, s[2], n, p), n, p);
     [b, t, i]
 }
@@ -104,9 +104,9 @@ fn settle(s: State, m: usize, k: usize, n: usize, p: u8) -> State
 }
 
 // b g
-fn apply(b: Mat, g: Row, n: usize, p: u8, factor: u64) -> Row
-    requires { ⌜ (n ≤ order-limit) × (0 < p) × (factor ≡ factor-of p) × FieldMatrix p n b ⌝ }
-    ensures { λ r. ⌜ r ≡ applied p n b g ⌝ }
+fn apply(b: &Mat, g: Row, n: usize, p: u8, factor: u64) -> Row
+    requires { ⌜ (n ≤ order-limit) × (0 < p) × (factor ≡ factor-of p) × FieldMatrix p n (now b) ⌝ }
+    ensures { λ r. ⌜ r ≡ applied p n (now (b .entry)) g ⌝ }
 {
     let mut r = [0u8; ORDER];
     let mut i = 0;
@@ -132,9 +132,9 @@ fn same_row(x: Row, y: Row, n: usize) -> bool
 }
 
 // Whether the polynomial of the block of m kills e_j, tried by powers of b.
-fn killed(b: Mat, j: usize, m: usize, n: usize, p: u8) -> bool
-    requires { ⌜ (n ≤ order-limit) × (0 < p) × (j < n) × (0 < m) × (m ≤ n) × FieldMatrix p n b ⌝ }
-    ensures { λ r. ⌜ KilledTest p n m j b r ⌝ }
+fn killed(b: &Mat, j: usize, m: usize, n: usize, p: u8) -> bool
+    requires { ⌜ (n ≤ order-limit) × (0 < p) × (j < n) × (0 < m) × (m ≤ n) × FieldMatrix p n (now b) ⌝ }
+    ensures { λ r. ⌜ KilledTest p n m j (now (b .entry)) r ⌝ }
 {
     let f = factor(p);
     let mut g = column(b, j, n);
@@ -166,13 +166,13 @@ fn probe(mut s: State, m: usize, k: usize, n: usize, p: u8) -> State
 {
     let mut j = m;
     while j < k {
-        if killed(s[0], j, m, n, p) {
+        if killed(&s[0], j, m, n, p) {
             j = j + 1;
             continue;
         }
         let x = join(s, j, k, n, p);
         s = x;
-        if m < reach(s[0], k) {
+        if m < reach(&s[0], k) {
             return s;
         }
         j = j + 1;
@@ -186,7 +186,7 @@ fn round(s: State, m: usize, k: usize, n: usize, p: u8) -> State
     ensures { λ r. ⌜ Fields p n r × ((h : ℕ) × Probed (modulo p) n k m (frame p n s) h (frame p n r)) ⌝ }
 {
     let c = settle(s, m, k, n, p);
-    if m < reach(c[0], k) {
+    if m < reach(&c[0], k) {
         return c;
     }
     probe(c, m, k, n, p)
@@ -198,11 +198,11 @@ pub fn split(s: State, k: usize, n: usize, p: u8) -> State
     ensures { λ r. ⌜ Fields p n r × ((m : ℕ) × Split (modulo p) n k (frame p n s) m (frame p n r)) ⌝ }
 {
     let mut c = chain(s, k, n, p);
-    let mut m = reach(c[0], k);
+    let mut m = reach(&c[0], k);
     loop {
         let x = round(c, m, k, n, p);
         c = x;
-        let h = reach(c[0], k);
+        let h = reach(&c[0], k);
         if h <= m {
             return c;
         }

@@ -21,7 +21,7 @@ pub fn reduce(a: Mat, n: usize, p: u8) -> State
     let mut k = n;
     while 0 < k {
         let c = split(s, k, n, p);
-        let m = reach(c[0], k);
+        let m = reach(&c[0], k);
         let x = rotate(c, m, k, n);
         s = x;
         k = k - m;

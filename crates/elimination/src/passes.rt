@@ -17,9 +17,9 @@ use matrices::Mat;
 use ordering::exchange::exchange_vectors;
 
 // The first row from j + 1 on, below k, where column j is not zero; k if there is none.
-fn first_pivot(b: Mat, j: usize, k: usize) -> usize
+fn first_pivot(b: &Mat, j: usize, k: usize) -> usize
     requires { ⌜ (j < k) × (k ≤ order-limit) ⌝ }
-    ensures { λ r. ⌜ FirstNonzero (λ i. cell b i j) (j + 1) k r ⌝ }
+    ensures { λ r. ⌜ FirstNonzero (λ i. cell (now (b .entry)) i j) (j + 1) k r ⌝ }
 {
     let mut i = j + 1;
     while i < k {
@@ -47,7 +47,7 @@ fn push(s: State, j: usize, k: usize, n: usize, p: u8) -> State
     requires { ⌜ Given p n k s × (j + 1 < k) × Ready (modulo p) k j (frame p n s) × (matrix p n (getD s 0 []) (suc j) j ≢ modulo p .zero) ⌝ }
     ensures { λ r. ⌜ Fields p n r × Passed (modulo p) n k j (frame p n s) (suc j) (suc j) (frame p n r) ⌝ }
 {
-    let w = column(s[0], j, n);
+    let w = column(&s[0], j, n);
     replace(s, j + 1, w, n, p)
 }
 
@@ -58,7 +58,7 @@ pub fn chain(mut s: State, k: usize, n: usize, p: u8) -> State
 {
     let mut j = 0;
     loop {
-        let q = first_pivot(s[0], j, k);
+        let q = first_pivot(&s[0], j, k);
         if k <= q {
             return s;
         }
@@ -69,9 +69,9 @@ pub fn chain(mut s: State, k: usize, n: usize, p: u8) -> State
 }
 
 // How long the block at the head of the window is: up to the first column with no pivot.
-pub fn reach(b: Mat, k: usize) -> usize
+pub fn reach(b: &Mat, k: usize) -> usize
     requires { ⌜ (0 < k) × (k ≤ order-limit) ⌝ }
-    ensures { λ r. ⌜ Reach k b r ⌝ }
+    ensures { λ r. ⌜ Reach k (now (b .entry)) r ⌝ }
 {
     let mut j = 0;
     while j + 1 < k {

@@ -8,10 +8,10 @@ use Rattle.basis.proofs.steps.column.Statement.{statement}
 use Rattle.basis.proofs.steps.column.Tie as tie
 
 abbrev Inv-loop : tie.InvT-loop
-Inv-loop j n b r₀ i₀ r i = (i ≤ n) × (r ≡ filled i (λ i. cell b i j) zero-row)
+Inv-loop b j n r₀ i₀ r i = (i ≤ n) × (r ≡ filled i (λ i. cell b i j) zero-row)
 
 abbrev μ-loop : tie.MeasureT-loop
-μ-loop j n b r₀ i₀ r i = n - i
+μ-loop b j n r₀ i₀ r i = n - i
 
 loop-holds : tie.Need-loop-holds Inv-loop μ-loop
 loop-holds c = (search needs, fill-start _ _)

@@ -18,8 +18,8 @@ abbrev μ-loop : tie.MeasureT-loop
 loop-holds : tie.Need-loop-holds Inv-loop μ-loop
 loop-holds c = (search needs, c .pre .1 .fits, c .pre .0 .fields, probe-start _ _ _ _ _ (c .pre .1) (c .pre .2))
 
-array-copy-out-killed : tie.Need-array-copy-out-killed Inv-loop μ-loop
-array-copy-out-killed c = search needs
+index-1-killed : tie.Need-index-1-killed Inv-loop μ-loop
+index-1-killed c = search needs
 
 killed-requires : tie.Need-killed-requires Inv-loop μ-loop
 killed-requires c κs = (c .before .before .before .pre .0 .order, prime-positive _ (c .before .before .before .pre .0 .prime-p), omega (arith, c .before .before .before .pre .0 .fits), c .before .before .before .pre .1 .some, omega (arith, c .before .before .before .pre .0 .fits, c .before .before .before .pre .1 .fits), c .before .before .loop .inv .2 .B)
@@ -36,8 +36,8 @@ loop-again c = (omega arith, omega arith, c .before .before .before .before .loo
 join-requires : tie.Need-join-requires Inv-loop μ-loop
 join-requires c κs = (given-next (c .before .before .before .before .before .pre .0) (c .before .before .before .before .loop .inv .2), omega (arith, c .before .before .before .before .before .pre .1 .some), search needs, c .before .before .before .before .loop .inv .3 .headed .window)
 
-array-copy-out-reach : tie.Need-array-copy-out-reach Inv-loop μ-loop
-array-copy-out-reach c = search needs
+index-1-reach : tie.Need-index-1-reach Inv-loop μ-loop
+index-1-reach c = search needs
 
 reach-requires : tie.Need-reach-requires Inv-loop μ-loop
 reach-requires c κs = (omega arith, omega (arith, c .before .before .before .before .before .before .before .pre .0 .fits, c .before .before .before .before .before .before .before .pre .0 .order))
@@ -58,4 +58,4 @@ returns-2 : tie.Need-returns-2 Inv-loop μ-loop
 returns-2 c = (c .before .loop .inv .2, probe-ends _ _ _ _ _ (c .before .before .args .t1) (c .before .loop .s) (c .before .before .pre .0 .fits) (search needs) (c .before .loop .inv .1) (c .before .loop .inv .3))
 
 pub probe-spec : {M : Type 1} → statement M
-probe-spec = tie.close (tie.spec Inv-loop μ-loop loop-holds array-copy-out-killed killed-requires add-j loop-less loop-again join-requires array-copy-out-reach reach-requires returns add-j-2 loop-less-2 loop-again-2 returns-2)
+probe-spec = tie.close (tie.spec Inv-loop μ-loop loop-holds index-1-killed killed-requires add-j loop-less loop-again join-requires index-1-reach reach-requires returns add-j-2 loop-less-2 loop-again-2 returns-2)

@@ -9,8 +9,8 @@ use Rattle.elimination.proofs.blocks.round.Tie as tie
 settle-requires : tie.Need-settle-requires
 settle-requires c κs = (c .pre .0, c .pre .1)
 
-array-copy-out-reach : tie.Need-array-copy-out-reach
-array-copy-out-reach c = search needs
+index-1-reach : tie.Need-index-1-reach
+index-1-reach c = search needs
 
 reach-requires : tie.Need-reach-requires
 reach-requires c κs = (omega (arith, c .before .before .pre .1 .some, c .before .before .pre .1 .fits), omega (arith, c .before .before .pre .0 .fits, c .before .before .pre .0 .order))
@@ -29,4 +29,4 @@ returns-2 : tie.Need-returns-2
 returns-2 c = (c .probe .ensures .0, round-probes _ _ _ _ (c .before .before .before .before .before .args .s) (c .before .before .before .before .settle .result) (given-next (c .before .before .before .before .before .pre .0) (c .before .before .before .before .settle .ensures .0)) (c .before .before .before .before .settle .ensures .1) _ (c .before .before .reach .ensures) (c .probe .result) (c .probe .ensures .1))
 
 pub round-spec : {M : Type 1} → statement M
-round-spec = tie.close (tie.spec settle-requires array-copy-out-reach reach-requires returns probe-requires returns-2)
+round-spec = tie.close (tie.spec settle-requires index-1-reach reach-requires returns probe-requires returns-2)

@@ -19,8 +19,8 @@ abbrev μ-loop : tie.MeasureT-loop
 chain-requires : tie.Need-chain-requires Inv-loop μ-loop
 chain-requires c κs = (c .pre .0, c .pre .1, record { window = c .pre .2; columns = λ i t l. absurd (omega arith) })
 
-array-copy-out-reach : tie.Need-array-copy-out-reach Inv-loop μ-loop
-array-copy-out-reach c = search needs
+index-1-reach : tie.Need-index-1-reach Inv-loop μ-loop
+index-1-reach c = search needs
 
 reach-requires : tie.Need-reach-requires Inv-loop μ-loop
 reach-requires c κs = (c .before .before .pre .1, omega (arith, c .before .before .pre .0 .fits, c .before .before .pre .0 .order))
@@ -31,8 +31,8 @@ loop-holds c = (c .before .before .chain .ensures .0, change-none _ _ _ _, chain
 round-requires : tie.Need-round-requires Inv-loop μ-loop
 round-requires c κs = (given-next (c .before .before .before .before .pre .0) (c .loop .inv .0), c .loop .inv .2)
 
-array-copy-out-reach-2 : tie.Need-array-copy-out-reach-2 Inv-loop μ-loop
-array-copy-out-reach-2 c = search needs
+index-1-reach-2 : tie.Need-index-1-reach-2 Inv-loop μ-loop
+index-1-reach-2 c = search needs
 
 reach-requires-2 : tie.Need-reach-requires-2 Inv-loop μ-loop
 reach-requires-2 c κs = (c .before .before .before .before .before .before .pre .1, omega (arith, c .before .before .before .before .before .before .pre .0 .fits, c .before .before .before .before .before .before .pre .0 .order))
@@ -51,4 +51,4 @@ loop-again c = (
 )
 
 pub split-spec : {M : Type 1} → statement M
-split-spec = tie.close (tie.spec Inv-loop μ-loop chain-requires array-copy-out-reach reach-requires loop-holds round-requires array-copy-out-reach-2 reach-requires-2 returns loop-less loop-again)
+split-spec = tie.close (tie.spec Inv-loop μ-loop chain-requires index-1-reach reach-requires loop-holds round-requires index-1-reach-2 reach-requires-2 returns loop-less loop-again)

@@ -38,8 +38,8 @@ with-entry-requires c κs = omega (arith, c .before .before .before .before .pre
 array-copy-out-plus-outer : tie.Need-array-copy-out-plus-outer
 array-copy-out-plus-outer c = search needs
 
-array-copy-out-column : tie.Need-array-copy-out-column
-array-copy-out-column c = search needs
+index-1-column : tie.Need-index-1-column
+index-1-column c = search needs
 
 column-requires : tie.Need-column-requires
 column-requires c κs = (c .before .before .before .before .before .before .before .pre .0 .order, omega (arith, c .before .before .before .before .before .before .before .pre .0 .fits, c .before .before .before .before .before .before .before .pre .0 .order, c .before .before .before .before .before .before .before .pre .1 .fits))
@@ -56,8 +56,8 @@ plus-outer-requires-2 c κs = (c .before .before .before .before .before .before
 array-copy-out-plus-outer-2 : tie.Need-array-copy-out-plus-outer-2
 array-copy-out-plus-outer-2 c = search needs
 
-array-copy-out-column-2 : tie.Need-array-copy-out-column-2
-array-copy-out-column-2 c = search needs
+index-1-column-2 : tie.Need-index-1-column-2
+index-1-column-2 c = search needs
 
 column-requires-2 : tie.Need-column-requires-2
 column-requires-2 c κs = (c .before .before .before .before .before .before .before .before .before .before .before .before .before .pre .0 .order, omega (arith, c .before .before .before .before .before .before .before .before .before .before .before .before .before .pre .0 .fits, c .before .before .before .before .before .before .before .before .before .before .before .before .before .pre .0 .order, c .before .before .before .before .before .before .before .before .before .before .before .before .before .pre .1 .fits))
@@ -85,4 +85,4 @@ returns-2 c = (
 )
 
 pub wipe-spec : {M : Type 1} → statement M
-wipe-spec = tie.close (tie.spec add-x mul-x index-1-x index-2-x first-nonzero-requires returns tail-requires sub-with-entry with-entry-requires array-copy-out-plus-outer array-copy-out-column column-requires plus-outer-requires combination-requires plus-outer-requires-2 array-copy-out-plus-outer-2 array-copy-out-column-2 column-requires-2 plus-outer-requires-3 array-copy-out-plus-outer-3 array-copy-out-combination combination-requires-2 plus-outer-requires-4 returns-2)
+wipe-spec = tie.close (tie.spec add-x mul-x index-1-x index-2-x first-nonzero-requires returns tail-requires sub-with-entry with-entry-requires array-copy-out-plus-outer index-1-column column-requires plus-outer-requires combination-requires plus-outer-requires-2 array-copy-out-plus-outer-2 index-1-column-2 column-requires-2 plus-outer-requires-3 array-copy-out-plus-outer-3 array-copy-out-combination combination-requires-2 plus-outer-requires-4 returns-2)

@@ -40,8 +40,8 @@ loop-holds c = (
 split-requires : tie.Need-split-requires Inv-loop μ-loop
 split-requires c κs = (record { order = c .before .before .before .pre .0; fits = c .before .loop .inv .0; prime-p = c .before .before .before .pre .1; fields = c .before .loop .inv .1 }, search needs, c .before .loop .inv .2 .window)
 
-array-copy-out-reach : tie.Need-array-copy-out-reach Inv-loop μ-loop
-array-copy-out-reach c = search needs
+index-1-reach : tie.Need-index-1-reach Inv-loop μ-loop
+index-1-reach c = search needs
 
 reach-requires : tie.Need-reach-requires Inv-loop μ-loop
 reach-requires c κs = search needs
@@ -66,4 +66,4 @@ returns : tie.Need-returns Inv-loop μ-loop
 returns c = let e : c .before .loop .k ≡ 0 = omega arith in reduced _ _ (c .before .before .before .args .a) (c .before .loop .s) (c .before .loop .inv .1) (rw e at (c .before .loop .inv .2))
 
 pub reduce-spec : {M : Type 1} → statement M
-reduce-spec = tie.close (tie.spec Inv-loop μ-loop identity-requires loop-holds split-requires array-copy-out-reach reach-requires rotate-requires sub-k loop-less loop-again returns)
+reduce-spec = tie.close (tie.spec Inv-loop μ-loop identity-requires loop-holds split-requires index-1-reach reach-requires rotate-requires sub-k loop-less loop-again returns)

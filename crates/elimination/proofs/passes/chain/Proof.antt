@@ -18,8 +18,8 @@ abbrev μ-loop : tie.MeasureT-loop
 loop-holds : tie.Need-loop-holds Inv-loop μ-loop
 loop-holds c = (c .pre .1, c .pre .0 .fields, passed-start _ _ _ _ _ _ (c .pre .2))
 
-array-copy-out-first-pivot : tie.Need-array-copy-out-first-pivot Inv-loop μ-loop
-array-copy-out-first-pivot c = search needs
+index-1-first-pivot : tie.Need-index-1-first-pivot Inv-loop μ-loop
+index-1-first-pivot c = search needs
 
 first-pivot-requires : tie.Need-first-pivot-requires Inv-loop μ-loop
 first-pivot-requires c κs = (c .before .loop .inv .0, omega (arith, c .before .before .pre .0 .fits, c .before .before .pre .0 .order))
@@ -43,4 +43,4 @@ loop-again : tie.Need-loop-again Inv-loop μ-loop
 loop-again c = (omega (arith, c .before .before .before .first-pivot .ensures .low, c .before .before .if1 .left), c .push .ensures .0, chain-turn _ _ _ _ (c .before .before .before .before .before .before .args .t1) (c .before .before .before .before .before .loop .s) (c .before .pull .result) (c .push .result) (c .before .before .before .before .before .loop .inv .2) (c .before .pull .ensures .1) (c .push .ensures .1))
 
 pub chain-spec : {M : Type 1} → statement M
-chain-spec = tie.close (tie.spec Inv-loop μ-loop loop-holds array-copy-out-first-pivot first-pivot-requires returns pull-requires push-requires add-j loop-less loop-again)
+chain-spec = tie.close (tie.spec Inv-loop μ-loop loop-holds index-1-first-pivot first-pivot-requires returns pull-requires push-requires add-j loop-less loop-again)

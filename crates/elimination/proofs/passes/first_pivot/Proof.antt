@@ -9,10 +9,10 @@ use Rattle.elimination.proofs.passes.first_pivot.Statement.{statement}
 use Rattle.elimination.proofs.passes.first_pivot.Tie as tie
 
 abbrev Inv-loop : tie.InvT-loop
-Inv-loop j k b i₀ i = (i ≤ k) × (j < i) × ((t : ℕ) → j < t → t < i → cell b t j ≡ 0)
+Inv-loop b j k i₀ i = (i ≤ k) × (j < i) × ((t : ℕ) → j < t → t < i → cell b t j ≡ 0)
 
 abbrev μ-loop : tie.MeasureT-loop
-μ-loop j k b i₀ i = k - i
+μ-loop b j k i₀ i = k - i
 
 add-i : tie.Need-add-i Inv-loop μ-loop
 add-i c = search needs

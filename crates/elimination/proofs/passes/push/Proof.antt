@@ -7,8 +7,8 @@ use Rattle.elimination.specs.Passing.{push-some, push-nonzero}
 use Rattle.elimination.proofs.passes.push.Statement.{statement}
 use Rattle.elimination.proofs.passes.push.Tie as tie
 
-array-copy-out-column : tie.Need-array-copy-out-column
-array-copy-out-column c = search needs
+index-1-column : tie.Need-index-1-column
+index-1-column c = search needs
 
 column-requires : tie.Need-column-requires
 column-requires c κs = (c .before .pre .0 .order, omega (arith, c .before .pre .0 .fits, c .before .pre .0 .order))
@@ -28,4 +28,4 @@ returns : tie.Need-returns
 returns c = (c .replace .ensures .0, push-some _ _ _ _ (c .before .before .before .args .t1) _ (c .replace .result) (c .before .before .before .pre .0) (c .before .before .before .pre .2) (c .before .before .before .pre .1) (c .before .column .ensures) (c .replace .ensures .1))
 
 pub push-spec : {M : Type 1} → statement M
-push-spec = tie.close (tie.spec array-copy-out-column column-requires add-replace replace-requires returns)
+push-spec = tie.close (tie.spec index-1-column column-requires add-replace replace-requires returns)

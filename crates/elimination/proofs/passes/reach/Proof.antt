@@ -26,7 +26,7 @@ add-result : tie.Need-add-result Inv-loop μ-loop
 add-result c = search needs
 
 returns : tie.Need-returns Inv-loop μ-loop
-returns c = reach-stops _ _ _ (c .before .before .before .before .args .b) (search needs) (c .before .first-pivot .ensures) (c .if1 .taken) (c .before .before .before .loop .inv .1)
+returns c = reach-stops _ _ _ (c .before .before .before .before .args .b .now) (search needs) (c .before .first-pivot .ensures) (c .if1 .taken) (c .before .before .before .loop .inv .1)
 
 add-j : tie.Need-add-j Inv-loop μ-loop
 add-j c = search needs
@@ -35,10 +35,10 @@ loop-less : tie.Need-loop-less Inv-loop μ-loop
 loop-less c = search needs
 
 loop-again : tie.Need-loop-again Inv-loop μ-loop
-loop-again c = (search needs, reach-turn _ _ (c .before .before .before .before .args .b) (c .before .before .before .loop .inv .1) (reach-pivot _ _ _ (c .before .before .before .before .args .b) (c .before .first-pivot .ensures) (c .if1 .left)))
+loop-again c = (search needs, reach-turn _ _ (c .before .before .before .before .args .b .now) (c .before .before .before .loop .inv .1) (reach-pivot _ _ _ (c .before .before .before .before .args .b .now) (c .before .first-pivot .ensures) (c .if1 .left)))
 
 returns-2 : tie.Need-returns-2 Inv-loop μ-loop
-returns-2 c = reach-ends _ _ (c .before .before .args .b) (c .before .loop .inv .0) (c .loop-test .left) (c .before .loop .inv .1)
+returns-2 c = reach-ends _ _ (c .before .before .args .b .now) (c .before .loop .inv .0) (c .loop-test .left) (c .before .loop .inv .1)
 
 pub reach-spec : {M : Type 1} → statement M
 reach-spec = tie.close (tie.spec Inv-loop μ-loop loop-holds add-loop first-pivot-requires add-result returns add-j loop-less loop-again returns-2)
