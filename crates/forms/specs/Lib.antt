@@ -11,7 +11,7 @@ pub mod Rules
 pub mod Words
 pub mod Operations
 -- Document 01's cases, and the theorems.
-pub mod Examples
+pub mod AsDocumented
 pub mod Tests
 pub mod Primes
 pub mod InversesModulo
@@ -30,7 +30,7 @@ pub mod RulesMean
 pub mod Listed
 pub mod Uniqueness
 pub mod Determined
-pub mod Accepting
+pub mod Verdicts
 pub mod Similarity
 pub mod Walk
 pub mod Starred

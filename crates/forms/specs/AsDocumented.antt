@@ -109,3 +109,11 @@ pub leads : (lead 2 (diagonal 2 (1 ∷ 0 ∷ 0 ∷ 1 ∷ 0 ∷ 1 ∷ [])) ≡ 0)
     × (lead 3 (diagonal 3 (0 ∷ 1 ∷ 0 ∷ 0 ∷ 0 ∷ 1 ∷ 0 ∷ 0 ∷ 0 ∷ 1 ∷ 0 ∷ 0 ∷ [])) ≡ 3)
 unfolding lead exponent diagonal total
 leads = (refl, refl, refl)
+
+-- F of case i, whose blocks are of sizes 1, 1 and 2: the one 1 stands in the last block
+abbrev case-i-F : ℕ → ℕ → ℕ
+case-i-F = frobenius 2 4 (diagonal 4 (1 ∷ 0 ∷ 0 ∷ 0 ∷ 0 ∷ 0 ∷ 1 ∷ 0 ∷ 0 ∷ 0 ∷ 0 ∷ 1 ∷ 0 ∷ 0 ∷ 0 ∷ 0 ∷ 0 ∷ 1 ∷ 0 ∷ 0 ∷ []))
+
+pub case-i-blocks : (case-i-F 3 2 ≡ 1) × (case-i-F 1 0 ≡ 0) × (case-i-F 2 3 ≡ 0)
+unfolding frobenius blocks companion unit degree diagonal
+case-i-blocks = (refl, refl, refl)
