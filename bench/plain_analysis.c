@@ -28,24 +28,27 @@ static uint8_t inner(const Row x, const Row y, const Field *f) {
 
 /* x += k y */
 static void add_multiple(Row x, uint8_t k, const Row y, const Field *f) {
-    for (size_t j = 0; j < f->n; j++) x[j] = remainder_of(x[j] + (uint32_t)k * y[j], f);
+    for (size_t j = 0; j < ORDER; j++) x[j] = remainder_of(x[j] + (uint32_t)k * y[j], f);
 }
 
-/* m += c z^T */
-static void add_outer(Mat m, const Row c, const Row z, const Field *f) {
+/* Column `at` of B and of T becomes B w and T w. */
+static void set_columns(State *s, size_t at, const Row w, const Field *f) {
+    for (size_t i = 0; i < f->n; i++) {
+        s->form[i][at] = inner(s->form[i], w, f);
+        s->basis[i][at] = inner(s->basis[i], w, f);
+    }
+}
+
+/* Row `at` of B and of the inverse of T is added to each row, as often as c says. */
+static void add_rows(State *s, const Row c, size_t at, const Field *f) {
+    Row x, y;
+    memcpy(x, s->form[at], ORDER);
+    memcpy(y, s->inverse[at], ORDER);
     for (size_t i = 0; i < f->n; i++)
-        if (c[i] != 0) add_multiple(m[i], c[i], z, f);
-}
-
-/* m w for column `at`. */
-static void set_column(Mat m, size_t at, const Row w, const Field *f) {
-    for (size_t i = 0; i < f->n; i++) m[i][at] = inner(m[i], w, f);
-}
-
-static void add_outer_of_row(Mat m, const Row c, size_t at, const Field *f) {
-    Row z;
-    memcpy(z, m[at], ORDER);
-    add_outer(m, c, z, f);
+        if (c[i] != 0) {
+            add_multiple(s->form[i], c[i], x, f);
+            add_multiple(s->inverse[i], c[i], y, f);
+        }
 }
 
 /* The basis vector e_at is replaced by w. */
@@ -55,10 +58,8 @@ static void replace(State *s, size_t at, const Row w, const Field *f) {
     e[at] = 1;
     add_multiple(c, (uint8_t)(f->p - d), w, f);
     add_multiple(c, d, e, f);
-    set_column(s->form, at, w, f);
-    add_outer_of_row(s->form, c, at, f);
-    set_column(s->basis, at, w, f);
-    add_outer_of_row(s->inverse, c, at, f);
+    set_columns(s, at, w, f);
+    add_rows(s, c, at, f);
 }
 
 static void column(Row out, const Mat b, size_t j, size_t n) {
@@ -84,29 +85,21 @@ static size_t turned(size_t i, size_t m, size_t k) {
     return i;
 }
 
-static void turn_columns(Mat x, const size_t *order, size_t n) {
-    for (size_t i = 0; i < n; i++) {
-        Row r;
-        memcpy(r, x[i], ORDER);
-        for (size_t j = 0; j < n; j++) x[i][j] = r[order[j]];
-    }
-}
-
-static void turn_rows(Mat x, const size_t *order, size_t n) {
-    Mat r;
-    memcpy(r, x, sizeof r);
-    for (size_t i = 0; i < n; i++) memcpy(x[i], r[order[i]], ORDER);
+static void turn_row(Row out, const Row x, const size_t *order) {
+    for (size_t j = 0; j < ORDER; j++) out[j] = x[order[j]];
 }
 
 /* The first m basis vectors of [0,k) go behind the others. */
 static void rotate(State *s, size_t m, size_t k, size_t n) {
     if (m == k) return;
     size_t order[ORDER];
-    for (size_t j = 0; j < n; j++) order[j] = turned(j, m, k);
-    turn_columns(s->form, order, n);
-    turn_rows(s->form, order, n);
-    turn_columns(s->basis, order, n);
-    turn_rows(s->inverse, order, n);
+    State r = *s;
+    for (size_t j = 0; j < ORDER; j++) order[j] = turned(j, m, k);
+    for (size_t i = 0; i < n; i++) {
+        turn_row(s->form[i], r.form[order[i]], order);
+        turn_row(s->basis[i], r.basis[i], order);
+        memcpy(s->inverse[i], r.inverse[order[i]], ORDER);
+    }
 }
 
 static void exchange_columns(Mat x, size_t a, size_t b, size_t n) {
@@ -159,26 +152,34 @@ static void combination(Row z, const Row v, const Mat m, const Field *f) {
         if (v[i] != 0) add_multiple(z, v[i], m[i], f);
 }
 
+/* Column a of B and of T times v is added to all columns. */
+static void add_columns(State *s, size_t a, const Row v, const Field *f) {
+    for (size_t i = 0; i < f->n; i++) {
+        if (s->form[i][a] != 0) add_multiple(s->form[i], s->form[i][a], v, f);
+        if (s->basis[i][a] != 0) add_multiple(s->basis[i], s->basis[i][a], v, f);
+    }
+}
+
 /* Row a + 1 is wiped from column m on, by multiples of e_a. */
 static void wipe(State *s, size_t a, size_t m, size_t k, const Field *f) {
-    const uint8_t *x = s->form[a + 1];
-    if (k <= first_nonzero(x, m, k)) return;
-    Row v = {0}, u = {0}, c, z;
-    for (size_t j = m; j < k; j++) v[j] = (uint8_t)((f->p - x[j]) % f->p);
-    u[a] = (uint8_t)(f->p - 1);
-    column(c, s->form, a, f->n);
-    add_outer(s->form, c, v, f);
+    Row v = {0}, z;
+    for (size_t j = m; j < k; j++) v[j] = (uint8_t)((f->p - s->form[a + 1][j]) % f->p);
+    add_columns(s, a, v, f);
     combination(z, v, s->form, f);
-    add_outer(s->form, u, z, f);
-    column(c, s->basis, a, f->n);
-    add_outer(s->basis, c, v, f);
+    add_multiple(s->form[a], (uint8_t)(f->p - 1), z, f);
     combination(z, v, s->inverse, f);
-    add_outer(s->inverse, u, z, f);
+    add_multiple(s->inverse[a], (uint8_t)(f->p - 1), z, f);
+}
+
+/* Rows 1 .. m - 1 are wiped. */
+static void clear(State *s, size_t m, size_t k, const Field *f) {
+    for (size_t r = m - 1; 0 < r; r--)
+        if (first_nonzero(s->form[r], m, k) < k) wipe(s, r - 1, m, k, f);
 }
 
 /* Nothing is left behind the block, or a longer one is made. */
 static void settle(State *s, size_t m, size_t k, const Field *f) {
-    for (size_t r = m - 1; 0 < r; r--) wipe(s, r - 1, m, k, f);
+    clear(s, m, k, f);
     size_t j = first_nonzero(s->form[0], m, k);
     if (k <= j) return;
     rotate(s, j, j + 1, f->n);
@@ -202,10 +203,15 @@ static int killed(const Mat b, size_t j, size_t m, const Field *f) {
     return memcmp(g, v, f->n) == 0;
 }
 
-/* Nothing is left behind the block: a longer one is made, or the block's polynomial kills the window. */
-static void probe(State *s, size_t m, size_t k, const Field *f) {
-    for (size_t j = m; j < k; j++) {
-        if (killed(s->form, j, m, f)) continue;
+static size_t first_unkilled(const Mat b, size_t from, size_t m, size_t k, const Field *f) {
+    for (size_t j = from; j < k; j++)
+        if (!killed(b, j, m, f)) return j;
+    return k;
+}
+
+/* Passes from e_0 + e_j, for each j that is not killed: a longer block is made, or the block's polynomial kills the window. */
+static void probe(State *s, size_t j, size_t m, size_t k, const Field *f) {
+    for (; j < k; j = first_unkilled(s->form, j + 1, m, k, f)) {
         Row w = {0};
         w[0] = w[j] = 1;
         replace(s, 0, w, f);
@@ -214,17 +220,39 @@ static void probe(State *s, size_t m, size_t k, const Field *f) {
     }
 }
 
+static int is_settled(const Mat b, size_t m, size_t k) {
+    for (size_t i = 0; i < m; i++)
+        if (first_nonzero(b[i], m, k) < k) return 0;
+    return 1;
+}
+
 /* The window becomes a block whose polynomial kills all of it, and the rest. */
 static void split(State *s, size_t k, const Field *f) {
     chain(s, k, f);
     size_t m = reach(s->form, k);
     for (;;) {
-        settle(s, m, k, f);
-        if (reach(s->form, k) <= m) probe(s, m, k, f);
-        size_t h = reach(s->form, k);
-        if (h <= m) return;
+        size_t h = m;
+        if (!is_settled(s->form, m, k)) {
+            settle(s, m, k, f);
+            h = reach(s->form, k);
+        }
+        if (h <= m) {
+            size_t j = first_unkilled(s->form, m, m, k, f);
+            if (k <= j) return;
+            probe(s, j, m, k, f);
+            h = reach(s->form, k);
+            if (h <= m) return;
+        }
         m = h;
     }
+}
+
+/* The window is a multiple of E: as many blocks of one row as it has rows. */
+static int is_scalar(const Mat b, size_t k) {
+    for (size_t i = 0; i < k; i++)
+        for (size_t j = 0; j < k; j++)
+            if (b[i][j] != (i == j ? b[0][0] : 0)) return 0;
+    return 1;
 }
 
 /* F, T and the inverse of T, from the matrix's bytes. */
@@ -234,7 +262,7 @@ static void reduce(State *s, const uint8_t *matrix, const Field *f) {
         memcpy(s->form[i], matrix + i * f->n, f->n);
         s->basis[i][i] = s->inverse[i][i] = 1;
     }
-    for (size_t k = f->n; 0 < k;) {
+    for (size_t k = f->n; 0 < k && !is_scalar(s->form, k);) {
         split(s, k, f);
         size_t m = reach(s->form, k);
         rotate(s, m, k, f->n);

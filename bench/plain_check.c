@@ -105,36 +105,70 @@ static int is_equal(const uint32_t *f, const uint32_t *g, size_t n, uint32_t p) 
     return 1;
 }
 
-static int is_unit_entry(const uint8_t *left, const uint8_t *right, size_t i, size_t j, size_t n, uint32_t p) {
-    uint32_t sums[TERMS] = {0}, unit[TERMS] = {0};
-    unit[0] = i == j;
-    for (size_t l = 0; l < n; l++) add_product(sums, left + (i * n + l) * n, n, right + (l * n + j) * n, n);
-    return is_equal(sums, unit, n, p);
+/* The entries of row i of a product of two records, one polynomial after the other. */
+typedef uint32_t Line[ORDER][TERMS];
+
+/* line += x X^shift times row l of `right`. */
+static void add_line(Line line, uint32_t x, size_t shift, const uint8_t *right, size_t l, size_t n) {
+    for (size_t j = 0; j < n; j++) add_scaled(line[j], x, shift, right + (l * n + j) * n, n);
+}
+
+static void product_line(Line line, const uint8_t *left, const uint8_t *right, size_t i, size_t n) {
+    memset(line, 0, sizeof(Line));
+    for (size_t l = 0; l < n; l++)
+        for (size_t k = 0; k < n; k++) {
+            uint8_t x = left[(i * n + l) * n + k];
+            if (x != 0) add_line(line, x, k, right, l, n);
+        }
+}
+
+static int is_unit_entry(const uint32_t *entry, size_t i, size_t j, size_t n, uint32_t p) {
+    for (size_t k = 0; k <= 2 * n; k++) {
+        uint32_t unit = k == 0 && i == j;
+        if (entry[k] != unit && entry[k] % p != unit % p) return 0;
+    }
+    return 1;
 }
 
 /* Rule 4 or 5: the product of two records is E. */
 static int inverse_rule(const Parts *x, int left, int right, int rule) {
-    for (size_t i = 0; i < x->n; i++)
+    for (size_t i = 0; i < x->n; i++) {
+        Line line;
+        product_line(line, x->payload[left], x->payload[right], i, x->n);
         for (size_t j = 0; j < x->n; j++)
-            if (!is_unit_entry(x->payload[left], x->payload[right], i, j, x->n, x->p)) return rule;
+            if (!is_unit_entry(line[j], i, j, x->n, x->p)) return rule;
+    }
     return 0;
 }
 
-/* The entry (i, j) of P(XE-A) is that of D QI. */
-static int is_smith_entry(const Parts *x, size_t i, size_t j) {
+/* Row i of P(XE-A): every coefficient of row i of P times X in its own place, and times each entry of a row of -A. */
+static void moved_line(Line line, const Parts *x, size_t i) {
     size_t n = x->n;
-    uint32_t moved[TERMS] = {0}, returned[TERMS] = {0};
-    const uint8_t *row = x->payload[PL] + i * n * n;
-    add_scaled(moved, 1, 1, row + j * n, n);
-    for (size_t l = 0; l < n; l++) add_scaled(moved, (uint32_t)x->p - x->payload[MA][l * n + j], 0, row + l * n, n);
+    memset(line, 0, sizeof(Line));
+    for (size_t l = 0; l < n; l++)
+        for (size_t k = 0; k < n; k++) {
+            uint32_t y = x->payload[PL][(i * n + l) * n + k];
+            if (y == 0) continue;
+            line[l][k + 1] += y;
+            for (size_t j = 0; j < n; j++) line[j][k] += y * (uint32_t)(x->p - x->payload[MA][l * n + j]);
+        }
+}
+
+/* The entry (i, j) of P(XE-A) is that of D QI. */
+static int is_returned(const uint32_t *moved, const Parts *x, size_t i, size_t j) {
+    size_t n = x->n;
+    uint32_t returned[TERMS] = {0};
     add_product(returned, x->payload[DF] + i * (n + 1), n + 1, x->payload[QI] + (i * n + j) * n, n);
     return is_equal(moved, returned, n, x->p);
 }
 
 static int smith_rule(const Parts *x) {
-    for (size_t i = 0; i < x->n; i++)
+    for (size_t i = 0; i < x->n; i++) {
+        Line line;
+        moved_line(line, x, i);
         for (size_t j = 0; j < x->n; j++)
-            if (!is_smith_entry(x, i, j)) return 6;
+            if (!is_returned(line[j], x, i, j)) return 6;
+    }
     return 0;
 }
 

@@ -9,7 +9,7 @@ use Rattle.algebra.specs.Ring.{Ring, times-left-commutative, zero-times,
 use Rattle.algebra.specs.Solver.{_:+_, _:*_, :-_, :0, solve₃, solve₄}
 use Rattle.algebra.specs.Sum.{sum, sum-split, sum-of-zeros, sum-equal, sum-of-plus, sum-of-minus, sum-times-left, delta, delta-same, delta-other, sum-of-delta, sum-of-delta-outside}
 use Rattle.algebra.specs.Matrix.{Matrix, Within, restrict, restrict-inside, restrict-within, product, product-at}
-use Rattle.algebra.specs.Shapes.{sum-at, diagonal}
+use Rattle.algebra.specs.Shapes.{sum-at}
 
 module _ {R : Type 0} (K : Ring R) where
   open Ring K using (plus as _⊕_, times as _⊗_, minus as ⊖_, zero as 𝟘, one as 𝟙)

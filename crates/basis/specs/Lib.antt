@@ -7,4 +7,5 @@ pub mod Remainders
 pub mod State
 pub mod Overwriting
 pub mod Steps
+pub mod Changes
 pub mod Searches

@@ -25,7 +25,7 @@ module _ {R : Type 0} (K : Ring R) where
   abbrev pub Replaced : ℕ → ℕ → Vector K → Frame K → Frame K → Type 0
   Replaced n s w X Y = Sheared K n (added s w) (delta K s) X Y
 
-  delta-upto : (k s : ℕ) → s < k → Upto K k (delta K s)
+  pub delta-upto : (k s : ℕ) → s < k → Upto K k (delta K s)
   delta-upto k s l i g = delta-other K s i (omega arith)
 
   -- nothing is added in a row where w is e_s

@@ -25,6 +25,20 @@ module _ {R : Type 0} (K : Ring R) where
     pub T : Y .T ≡ product K n (X .T) (elementary K n u v)
     pub I : Y .I ≡ product K n (elementary K n (taken u by) v) (X .I)
 
+  -- the two halves of such a change: E + u vᵀ behind B and T, and in front of B and the inverse of T
+  pub record OnColumns (n : ℕ) (u v : Vector K) (X Y : Frame K) : Type 0 where
+    pub B : Y .B ≡ product K n (X .B) (elementary K n u v)
+    pub T : Y .T ≡ product K n (X .T) (elementary K n u v)
+    pub I : Y .I ≡ X .I
+
+  pub record OnRows (n : ℕ) (u v : Vector K) (X Y : Frame K) : Type 0 where
+    pub B : Y .B ≡ product K n (elementary K n u v) (X .B)
+    pub T : Y .T ≡ X .T
+    pub I : Y .I ≡ product K n (elementary K n u v) (X .I)
+
+  pub sheared-by : (n : ℕ) (u v : Vector K) (d : R) {X Y Z : Frame K} → (𝟙 ⊕ inner K n v u) ⊗ d ≡ 𝟙 → OnColumns n u v X Y → OnRows n (taken u d) v Y Z → Sheared n u v X Z
+  sheared-by n u v d e c r = record { by = d; unit = e; B = r .B ∙ ap (product K n _) (c .B); T = r .T ∙ c .T; I = r .I ∙ ap (product K n _) (c .I) }
+
   pub taken-zero : (u : Vector K) (d : R) (i : ℕ) → u i ≡ 𝟘 → taken u d i ≡ 𝟘
   taken-zero u d i e = ap (λ x. ⊖ (x ⊗ d)) e ∙ ap ⊖_ (zero-times K d) ∙ minus-zero K
 

@@ -1,7 +1,7 @@
 -- The growing block in code: what its steps say of the state.
 use mathlib.Core.Path.{_≡_, sym, _∙_, ap, ap₂, subst}
 use mathlib.Core.Logic.{_≢_}
-use mathlib.Core.List.{List, [], _∷_}
+use mathlib.Core.List.{List, []}
 use Prim.Native.Nat.{ℕ, zero, suc, _+_, _-_, _≤_, _<_}
 use native.Mathlib.Numerals.{add-one}
 use native.Mathlib.Decide.{decLt, ℕ-discrete}
@@ -11,27 +11,28 @@ use lib.Seq.{getD-set-same, getD-set-other}
 use Rattle.forms.specs.Numbers.{order-limit}
 use Rattle.algebra.specs.Ring.{zero-plus, plus-zero}
 use Rattle.algebra.specs.Sum.{delta, delta-same, delta-other}
-use Rattle.algebra.specs.Matrix.{Matrix, combine}
+use Rattle.algebra.specs.Matrix.{Matrix}
 use Rattle.algebra.specs.Modular.{residue, modulo, residue-one}
 use Rattle.matrices.specs.Matrices.{cell, vector, matrix, vector-inside, vector-upto, matrix-inside, FieldRow, zero-row, zero-row-at}
 use Rattle.forms.specs.Primes.{prime-means}
 use Rattle.matrices.specs.Rows.{unit-row, unit-row-at}
-use Rattle.basis.specs.Frame.{Window, Change, change-then}
+use Rattle.basis.specs.Frame.{Frame, Window, Change, change-then}
+use Rattle.basis.specs.Shear.{OnColumns, OnRows}
 use Rattle.basis.specs.Replace.{Replaced}
-use Rattle.elimination.specs.Shapes.{CompanionRows}
 use Rattle.elimination.specs.Wipe.{wipe-change, wipe-columns, wipe-rows, wipe-zero}
 use Rattle.ordering.specs.Reordering.{Reordered}
 use Rattle.ordering.specs.Rotation.{rotation, rotated-change}
-use Rattle.elimination.specs.Pass.{Ready, Chained}
-use Rattle.elimination.specs.Killing.{corner, Kills}
-use Rattle.elimination.specs.Settle.{Headed, Wiped, wiped-none, Cleared, clear-turn, cleared-headed, Settled, settled-same, settled-longer, chained-headed}
-use Rattle.elimination.specs.Probe.{Joined, joined-ready, joined-headed, Probing, Probed, probe-skip, probe-longer, probe-turn, probe-end, probed-of-settled, probed-then, Split, split-of-probed}
+use Rattle.elimination.specs.Pass.{Ready, ready-first, Chained}
+use Rattle.elimination.specs.Settle.{Headed, Wiped, wiped-none, Cleared, clear-turn, cleared-headed, Settled, headed-flat, settled-same, settled-longer, chained-headed}
+use Rattle.elimination.specs.Probe.{Joined, joined-ready, joined-headed, Probing, Probed, probe-start, probing-of-settled, probe-skip, probe-longer, probe-turn, probe-end, probed-of-settled, probed-then, Split, split-of-probed}
 use Rattle.elimination.specs.Form.{Stage, stage-turn}
-use Rattle.basis.specs.State.{Array, State, frame, frame-within, Given, prime-positive, prime-distinct, zero-entry, entry-nonzero, field-row}
-use Rattle.basis.specs.Steps.{PlusOuter, opposite-unit, spread}
-use Rattle.basis.specs.Searches.{column-of, column-of-at, FirstNonzero}
-use Rattle.elimination.specs.Tails.{tail-of, tail-before, tail-low, tail-high, tail-upto}
+use Rattle.basis.specs.State.{State, frame, frame-within, Given, prime-positive, prime-distinct, zero-entry, entry-nonzero, field-row}
+use Rattle.basis.specs.Steps.{opposite-unit}
+use Rattle.basis.specs.Changes.{spread}
+use Rattle.basis.specs.Searches.{FirstNonzero}
+use Rattle.elimination.specs.Tails.{tail-of, tail-before, tail-low, tail-high, tail-upto, tail-field}
 use Rattle.elimination.specs.Reaching.{Reach, reach-is}
+use Rattle.elimination.specs.Tests.{NothingBehind, FirstUnkilled}
 use Rattle.ordering.specs.Orders.{InOrder}
 
 module _ (p n k m a : ℕ) (s : State) (g : Given p n k s) (h : Headed (modulo p) k m (frame p n s)) (l : a + 1 < m) where
@@ -42,20 +43,24 @@ module _ (p n k m a : ℕ) (s : State) (g : Given p n k s) (h : Headed (modulo p
     | no c ↦ h .window .right (suc a) t (omega (arith, h .fits)) (omega arith)
   ])
 
-  module _ (v u c e y z : List ℕ) (w b t f : Array) (ev : v ≡ tail-of p m k (getD (getD s 0 []) (a + 1) [])) (eu : u ≡ opposite-unit p a) (ec : c ≡ column-of n (getD s 0 []) a) (ee : e ≡ column-of n (getD s 1 []) a)
-      (ey : vector p n y ≡ combine (modulo p) n (vector p n v) (matrix p n w)) (ez : vector p n z ≡ combine (modulo p) n (vector p n v) (matrix p n (getD s 2 []))) (xw : PlusOuter p n (getD s 0 []) c v w) (xb : PlusOuter p n w u y b) (xt : PlusOuter p n (getD s 1 []) e v t) (xf : PlusOuter p n (getD s 2 []) u z f) where
-    pub wiped-now : Wiped (modulo p) n k m a (frame p n s) (frame p n (b ∷ t ∷ f ∷ []))
-    wiped-now =
+  module _ (v : List ℕ) (ev : v ≡ tail-of p m k (getD (getD s 0 []) (a + 1) [])) where
+    next-row : FieldRow p n (getD (getD s 0 []) (a + 1) [])
+    next-row = field-row p n (getD s 0 []) (a + 1) (omega (arith, g .fits, h .fits)) (g .fields .B)
+
+    pub wiping-field : FieldRow p n v
+    wiping-field = rw ev (tail-field p n m k _ (prime-positive p (g .prime-p)) (g .fits) next-row)
+
+    pub wiped-now : {Y Z : Frame (modulo p)} → OnColumns (modulo p) n (delta (modulo p) a) (vector p n v) (frame p n s) Y → OnRows (modulo p) n (opposite-unit p a) (vector p n v) Y Z
+        → Wiped (modulo p) n k m a (frame p n s) Z
+    wiped-now x y =
         let positive : 0 < p = prime-positive p (g .prime-p) in
         let inside : a + 1 < n = omega (arith, g .fits, h .fits) in
-        let row : FieldRow p n (getD (getD s 0 []) (a + 1) []) = field-row p n (getD s 0 []) (a + 1) inside (g .fields .B) in
-        let low : (q : ℕ) → q < m → vector p n v q ≡ modulo p .zero = λ q d. ap (λ (x : List ℕ). vector p n x q) ev ∙ tail-low p n m k _ positive (g .fits) row q d in
+        let low : (q : ℕ) → q < m → vector p n v q ≡ modulo p .zero = λ q d. ap (λ (x : List ℕ). vector p n x q) ev ∙ tail-low p n m k _ positive (g .fits) next-row q d in
         let high : (q : ℕ) → m ≤ q → q < k → vector p n v q ≡ modulo p .minus (matrix p n (getD s 0 []) (suc a) q) = λ q d o.
-        ap (λ (x : List ℕ). vector p n x q) ev ∙ tail-high p n m k _ positive (g .fits) row q d o ∙ ap (λ (i : ℕ). modulo p .minus (residue p (cell (getD s 0 []) i q))) (add-one a)
+        ap (λ (x : List ℕ). vector p n x q) ev ∙ tail-high p n m k _ positive (g .fits) next-row q d o ∙ ap (λ (i : ℕ). modulo p .minus (residue p (cell (getD s 0 []) i q))) (add-one a)
         ∙ ap (modulo p .minus) (sym (matrix-inside p n (getD s 0 []) (suc a) q (omega arith) (omega (arith, g .fits)))) in
-        let upto : (q : ℕ) → k ≤ q → vector p n v q ≡ modulo p .zero = λ q d. ap (λ (x : List ℕ). vector p n x q) ev ∙ tail-upto p n m k _ positive (g .fits) row q d in
-        let sheared = spread p n a v positive (g .order) (omega arith) (ap (λ (x : List ℕ). getD x a 0) ev ∙ tail-before p n m k _ positive (g .fits) row a (omega arith)) s u c e y z w b t f eu
-        (λ i d. ap (λ (x : List ℕ). getD x i 0) ec ∙ column-of-at n (getD s 0 []) a i d) (λ i d. ap (λ (x : List ℕ). getD x i 0) ee ∙ column-of-at n (getD s 1 []) a i d) ey ez xw xb xt xf in
+        let upto : (q : ℕ) → k ≤ q → vector p n v q ≡ modulo p .zero = λ q d. ap (λ (x : List ℕ). vector p n x q) ev ∙ tail-upto p n m k _ positive (g .fits) next-row q d in
+        let sheared = spread p n a v (omega arith) (ap (λ (x : List ℕ). getD x a 0) ev ∙ tail-before p n m k _ positive (g .fits) next-row a (omega arith)) x y in
         record {
           change = wipe-change (modulo p) n k m a (vector p n v) _ _ (omega arith) (h .fits) (g .fits) (frame-within p n s) low high upto (h .columns) sheared;
           columns = wipe-columns (modulo p) n k m a (vector p n v) _ _ (omega arith) (h .fits) (g .fits) (frame-within p n s) low high upto (h .columns) sheared;
@@ -67,6 +72,11 @@ pub clear-next : (p n k m r : ℕ) (s t u : State) → 0 < r → Cleared (modulo
 clear-next p n k m r s t u l x y = let e : r ≡ suc (r - 1) = omega arith in
     clear-turn (modulo p) n k m (r - 1) (frame p n s) (frame p n t) (frame p n u) (subst (λ (q : ℕ). Cleared (modulo p) n k m q (frame p n s) (frame p n t)) e x) y
 
+-- row r has nothing from column m on
+pub clear-skips : (p n k m r : ℕ) (s t : State) → Given p n k t → Headed (modulo p) k m (frame p n t) → 0 < r → r < m → Cleared (modulo p) n k m r (frame p n s) (frame p n t)
+    → (q : ℕ) → FirstNonzero (cell (getD t 0 []) r) m k q → k ≤ q → Cleared (modulo p) n k m (r - 1) (frame p n s) (frame p n t)
+clear-skips p n k m r s t g h l rm x q f e = clear-next p n k m r s t t l x (wiped-already p n k m (r - 1) t g h (omega arith) q (subst (λ (i : ℕ). FirstNonzero (cell (getD t 0 []) i) m k q) (omega arith) f) e)
+
 module _ (p n k m : ℕ) (s c : State) (g : Given p n k c) (h : Headed (modulo p) k m (frame p n s)) (x : Cleared (modulo p) n k m 0 (frame p n s) (frame p n c)) (j : ℕ) (f : FirstNonzero (cell (getD c 0 []) 0) m k j) where
   -- row 0 has nothing from column m on
   pub settled-here : k ≤ j → Settled (modulo p) n k m (frame p n s) m (frame p n c)
@@ -77,7 +87,7 @@ module _ (p n k m : ℕ) (s c : State) (g : Given p n k c) (h : Headed (modulo p
     turned-change = rotated-change (modulo p) n j (j + 1) k _ _ (omega arith) (omega arith) (g .fits) (frame-within p n c) (frame-within p n y) (o .reordered p)
 
     pub turned-ready : Ready (modulo p) k 0 (frame p n y)
-    turned-ready = record { window = turned-change .window (cleared-headed (modulo p) n k m 0 _ _ h x .window); columns = λ i t a. absurd (omega arith) }
+    turned-ready = ready-first (modulo p) k (frame p n y) (turned-change .window (cleared-headed (modulo p) n k m 0 _ _ h x .window))
 
     pub settled-further : (q : ℕ) (r : State) → Chained (modulo p) n k (frame p n y) q (frame p n r) → Settled (modulo p) n k m (frame p n s) q (frame p n r)
     settled-further q r z = settled-longer (modulo p) (prime-distinct p (g .prime-p)) n k m j q (frame p n s) (frame p n c) (frame p n y) (frame p n r) (g .fits) (f .low) l
@@ -127,10 +137,9 @@ module _ (p n k j : ℕ) (s : State) (w : List ℕ) (t : State) (g : Given p n k
   pub joined : (r : State) → (m : ℕ) × Chained (modulo p) n k (frame p n t) m (frame p n r) → Joined (modulo p) n k j (frame p n s) (frame p n r)
   joined r c = record { Z = frame p n t; w = vector p n w; is = vector-is; replaced = x; h = c .0; chained = c .1 }
 
--- one turn of the probe at j: e_j is killed as it stands, or joined to e_0
-pub probe-skips : (p n k m j : ℕ) (s t : State) → j < k → k ≤ n → Probing (modulo p) n k m j (frame p n s) (frame p n t) → Kills (modulo p) n (matrix p n (getD t 0 [])) (corner (modulo p) m (matrix p n (getD t 0 []))) (delta (modulo p) j)
-    → Probing (modulo p) n k m (j + 1) (frame p n s) (frame p n t)
-probe-skips p n k m j s t l kn x h = rw (add-one j) (probe-skip (modulo p) n k m j (frame p n s) (frame p n t) (omega arith) x h)
+-- the vectors before the one that a test finds are killed as they stand; that one is joined to e_0
+pub probe-skips : (p n k m j r : ℕ) (s t : State) → k ≤ n → Probing (modulo p) n k m j (frame p n s) (frame p n t) → FirstUnkilled p n m j k (getD t 0 []) r → Probing (modulo p) n k m r (frame p n s) (frame p n t)
+probe-skips p n k m j r s t kn x f = probe-skip (modulo p) n k m j r (frame p n s) (frame p n t) (omega (arith, f .high)) x (f .killed)
 
 module _ (p n k m j : ℕ) (s t u : State) (g : Given p n k u) (mj : m ≤ j) (jk : j < k) (x : Probing (modulo p) n k m j (frame p n s) (frame p n t)) (y : Joined (modulo p) n k j (frame p n t) (frame p n u)) (r : ℕ) (z : Reach k (getD u 0 []) r) where
   length-is : y .h ≡ r
@@ -142,30 +151,30 @@ module _ (p n k m j : ℕ) (s t u : State) (g : Given p n k u) (mj : m ≤ j) (j
   pub probe-goes-on : r ≤ m → Probing (modulo p) n k m (j + 1) (frame p n s) (frame p n u)
   probe-goes-on l = rw (add-one j) (probe-turn (modulo p) n k m j (frame p n s) (frame p n t) (frame p n u) (g .fits) mj jk (frame-within p n t) x y (omega (arith, length-is)))
 
-pub probe-ends : (p n k m j : ℕ) (s t : State) → k ≤ n → k ≤ j → j ≤ k → Probing (modulo p) n k m j (frame p n s) (frame p n t) → (h : ℕ) × Probed (modulo p) n k m (frame p n s) h (frame p n t)
-probe-ends p n k m j s t kn a b x = (m, probe-end (modulo p) n k m (frame p n s) (frame p n t) kn (let e : j ≡ k = omega arith in subst (λ (q : ℕ). Probing (modulo p) n k m q (frame p n s) (frame p n t)) e x))
+pub probe-ends : (p n k m j : ℕ) (s t : State) → k ≤ n → k ≤ j → j ≤ k → Probing (modulo p) n k m j (frame p n s) (frame p n t) → Probed (modulo p) n k m (frame p n s) m (frame p n t)
+probe-ends p n k m j s t kn a b x = probe-end (modulo p) n k m (frame p n s) (frame p n t) kn (let e : j ≡ k = omega arith in subst (λ (q : ℕ). Probing (modulo p) n k m q (frame p n s) (frame p n t)) e x)
 
--- one round
+-- nothing is left behind the block, as a test says
+pub settled-already : (p n k m : ℕ) (c : State) → Given p n k c → Headed (modulo p) k m (frame p n c) → NothingBehind m k (getD c 0 []) → Probing (modulo p) n k m m (frame p n c) (frame p n c)
+settled-already p n k m c g h z = probe-start (modulo p) n k m (frame p n c) h (headed-flat (modulo p) k m (frame p n c) h (λ i t a b l.
+    zero-entry p n (getD c 0 []) i t (omega (arith, g .fits, h .fits)) (omega (arith, g .fits)) (z i t a b l)))
+
+-- a longer block was made, or nothing is left behind the block
 module _ (p n k m : ℕ) (s c : State) (g : Given p n k c) (x : (h : ℕ) × Settled (modulo p) n k m (frame p n s) h (frame p n c)) (r : ℕ) (z : Reach k (getD c 0 []) r) where
   settled-is : x .0 ≡ r
   settled-is = reach-is p n k (x .0) r c (prime-means p (g .prime-p)) (g .fits) (g .fields) (x .1 .headed) z
 
-  pub round-grows : m < r → (h : ℕ) × Probed (modulo p) n k m (frame p n s) h (frame p n c)
-  round-grows l = (x .0, probed-of-settled (modulo p) n k m (frame p n s) (x .0) (frame p n c) (x .1) (omega (arith, settled-is)))
+  pub settle-grows : m < r → (h : ℕ) × Probed (modulo p) n k m (frame p n s) h (frame p n c)
+  settle-grows l = (x .0, probed-of-settled (modulo p) n k m (frame p n s) (x .0) (frame p n c) (x .1) (omega (arith, settled-is)))
 
-  same-length : r ≤ m → x .0 ≡ m
-  same-length l = omega (arith, settled-is, x .1 .grown)
+  pub settle-stays : r ≤ m → Probing (modulo p) n k m m (frame p n s) (frame p n c)
+  settle-stays l = let e : x .0 ≡ m = omega (arith, settled-is, x .1 .grown) in probing-of-settled (modulo p) n k m (frame p n s) (frame p n c) (subst (λ (q : ℕ). Settled (modulo p) n k m (frame p n s) q (frame p n c)) e (x .1))
 
-  pub round-headed : r ≤ m → Headed (modulo p) k m (frame p n c)
-  round-headed l = subst (λ (q : ℕ). Headed (modulo p) k q (frame p n c)) (same-length l) (x .1 .headed)
+-- what the probe makes of it
+pub settle-probes : (p n k m : ℕ) (s c u : State) → Probing (modulo p) n k m m (frame p n s) (frame p n c) → (h : ℕ) × Probed (modulo p) n k m (frame p n c) h (frame p n u) → (h : ℕ) × Probed (modulo p) n k m (frame p n s) h (frame p n u)
+settle-probes p n k m s c u x y = (y .0, probed-then (modulo p) n k m (frame p n s) (frame p n c) (y .0) (frame p n u) (x .change) (y .1))
 
-  pub round-flat : r ≤ m → CompanionRows (modulo p) m (matrix p n (getD c 0 []))
-  round-flat l = x .1 .flat (same-length l)
-
-  pub round-probes : (u : State) → (h : ℕ) × Probed (modulo p) n k m (frame p n c) h (frame p n u) → (h : ℕ) × Probed (modulo p) n k m (frame p n s) h (frame p n u)
-  round-probes u y = (y .0, probed-then (modulo p) n k m (frame p n s) (frame p n c) (y .0) (frame p n u) (x .1 .change) (y .1))
-
--- the rounds
+-- the turns
 module _ (p n k m : ℕ) (s c u : State) (g : Given p n k u) (x : Change (modulo p) n k (frame p n s) (frame p n c)) (y : (h : ℕ) × Probed (modulo p) n k m (frame p n c) h (frame p n u)) (r : ℕ) (z : Reach k (getD u 0 []) r) where
   probed-is : y .0 ≡ r
   probed-is = reach-is p n k (y .0) r u (prime-means p (g .prime-p)) (g .fits) (g .fields) (y .1 .headed) z

@@ -94,16 +94,23 @@ module _ {R : Type 0} (K : Ring R) where
       (ap (λ x. x ⊗ apply K n (power K n A m) v i) (monic-of-monic m c .lead) ∙ one-times K _ ∙ e i)
       ∙ minus-plus K _)
 
-  module _ (n m : ℕ) (B : Matrix K) (some : 0 < m) (fits : m ≤ n) (b : Within K n B) (h : CompanionColumns K m B) where
-    unit-upto : (q : ℕ) → q < n → Upto K n (delta K q)
+  module _ (n : ℕ) (B : Matrix K) where
+    pub unit-upto : (q : ℕ) → q < n → Upto K n (delta K q)
     unit-upto q l i g = delta-other K q i (omega arith)
 
+    pub power-none : (q : ℕ) → q < n → apply K n (power K n B 0) (delta K q) ≡ delta K q
+    power-none q l = ap (λ (M : Matrix K). apply K n M (delta K q)) (power-zero K n B) ∙ identity-apply K n (delta K q) (unit-upto q l)
+
+    pub power-one : (q : ℕ) → q < n → apply K n (power K n B 1) (delta K q) ≡ column K B q
+    power-one q l = ap (λ (M : Matrix K). apply K n M (delta K q)) (power-suc K n B 0) ∙ apply-product K n B (power K n B 0) (delta K q) ∙ ap (apply K n B) (power-none q l) ∙ apply-delta K n B q l
+
+  module _ (n m : ℕ) (B : Matrix K) (some : 0 < m) (fits : m ≤ n) (b : Within K n B) (h : CompanionColumns K m B) where
     -- B e_q = e_(q+1)
     next : (q : ℕ) → suc q < m → apply K n B (delta K q) ≡ delta K (suc q)
     next q l = apply-delta K n B q (omega arith) ∙ fun-ext (λ i. h .unit i q l)
 
     powers : (q : ℕ) → q < m → apply K n (power K n B q) (delta K 0) ≡ delta K q
-    powers zero l = ap (λ (M : Matrix K). apply K n M (delta K 0)) (power-zero K n B) ∙ identity-apply K n (delta K 0) (unit-upto 0 (omega arith))
+    powers zero l = power-none n B 0 (omega arith)
     powers (suc q) l = ap (λ (M : Matrix K). apply K n M (delta K 0)) (power-suc K n B q) ∙ apply-product K n B (power K n B q) (delta K 0) ∙ ap (apply K n B) (powers q (omega arith)) ∙ next q l
 
     power-last : apply K n (power K n B m) (delta K 0) ≡ column K B (m - 1)
@@ -118,7 +125,7 @@ module _ {R : Type 0} (K : Ring R) where
     low-inside f i l = low-terms f i ∙ sum-of-delta K i f m l
 
     corner-kills-first : Kills n B (corner m B) (delta K 0)
-    corner-kills-first = kills-by-powers n m B (λ i. B i (m - 1)) (delta K 0) b (unit-upto 0 (omega arith)) (λ i. ap (λ (w : Vector K). w i) power-last ∙ sym (elim (decLt i m) [
+    corner-kills-first = kills-by-powers n m B (λ i. B i (m - 1)) (delta K 0) b (unit-upto n B 0 (omega arith)) (λ i. ap (λ (w : Vector K). w i) power-last ∙ sym (elim (decLt i m) [
       | yes l ↦ low-inside (λ k. B k (m - 1)) i l
       | no l ↦ low-terms (λ k. B k (m - 1)) i ∙ sum-of-delta-outside K i _ m (omega arith) ∙ sym (h .low i (m - 1) (omega arith) (omega arith))
     ]))
@@ -145,7 +152,7 @@ module _ {R : Type 0} (K : Ring R) where
 
       remainder-zero : (i : ℕ) → D .remainder .0 i ≡ 𝟘
       remainder-zero i = elim (decLt i m) [
-        | yes l ↦ sym (low-inside (D .remainder .0) i l) ∙ ap (λ (w : Vector K). w i) (sym (act-as-sum K n B b (delta K 0) (unit-upto 0 (omega arith)) m (D .remainder) (D .below)) ∙ remainder-kills)
+        | yes l ↦ sym (low-inside (D .remainder .0) i l) ∙ ap (λ (w : Vector K). w i) (sym (act-as-sum K n B b (delta K 0) (unit-upto n B 0 (omega arith)) m (D .remainder) (D .below)) ∙ remainder-kills)
         | no l ↦ D .below i (omega arith)
       ]
 

@@ -11,6 +11,8 @@ pub mod Form
 pub mod Tails
 pub mod Reaching
 pub mod Powers
+pub mod Tests
 pub mod Passing
 pub mod Blocking
+pub mod Scalar
 pub mod Reduced

@@ -23,6 +23,10 @@ module _ {R : Type 0} (K : Ring R) where
     pub window : Window K k (X .B)
     pub columns : UnitColumns K j (X .B)
 
+  -- a pass can begin in every window
+  pub ready-first : (k : ℕ) (X : Frame K) → Window K k (X .B) → Ready k 0 X
+  ready-first k X w = record { window = w; columns = λ i t l. absurd (omega arith) }
+
   -- the pass from `start` to j; rows of a companion block longer than the limit have been kept
   pub record Passed (n k start : ℕ) (X : Frame K) (limit j : ℕ) (Y : Frame K) : Type 0 where
     pub change : Change K n k X Y

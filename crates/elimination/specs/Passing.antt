@@ -25,12 +25,12 @@ module _ (p n k j q : ℕ) (s : State) (g : Given p n k s) (r : Ready (modulo p)
   cell-hit : matrix p n (getD s 0 []) q j ≢ modulo p .zero
   cell-hit = entry-nonzero p n (getD s 0 []) q j (g .fields .B) (omega (arith, g .fits)) (omega (arith, g .fits, f .low)) (f .hit l)
 
-  pub pull-none : q ≡ j + 1 → Pulled (modulo p) n k j (frame p n s) (frame p n s)
-  pull-none e = record { passed = passed-start (modulo p) n k j (suc j) (frame p n s) r; pivot = subst (λ (y : ℕ). matrix p n (getD s 0 []) y j ≢ modulo p .zero) (e ∙ add-one j) cell-hit }
+  pub pull-none : q ≤ j + 1 → Pulled (modulo p) n k j (frame p n s) (frame p n s)
+  pull-none e = record { passed = passed-start (modulo p) n k j (suc j) (frame p n s) r; pivot = subst (λ (y : ℕ). matrix p n (getD s 0 []) y j ≢ modulo p .zero) (omega (arith, f .low)) cell-hit }
 
-  pub pull-some : (t : State) → q ≢ j + 1 → InOrder n (exchange (j + 1) q) s t → Pulled (modulo p) n k j (frame p n s) (frame p n t)
-  pull-some t d m = pull-pulls (modulo p) (prime-distinct p (g .prime-p)) n k j q (frame p n s) (frame p n t) l (g .fits) (omega (arith, f .low)) (frame-within p n s) (frame-within p n t) r
-      (cell-zero (suc j) (omega arith) (omega (arith, f .low))) cell-hit (subst (λ (i : ℕ). Reordered (modulo p) n (exchange i q) (frame p n s) (frame p n t)) (add-one j) (m .reordered p))
+  pub pull-some : (t : State) → j + 1 < q → InOrder n (exchange (j + 1) q) s t → Pulled (modulo p) n k j (frame p n s) (frame p n t)
+  pull-some t d m = pull-pulls (modulo p) (prime-distinct p (g .prime-p)) n k j q (frame p n s) (frame p n t) l (g .fits) (omega arith) (frame-within p n s) (frame-within p n t) r
+      (cell-zero (suc j) (omega arith) (omega arith)) cell-hit (subst (λ (i : ℕ). Reordered (modulo p) n (exchange i q) (frame p n s) (frame p n t)) (add-one j) (m .reordered p))
 
 -- column j in the place of e_(j+1)
 pub push-some : (p n k j : ℕ) (s : State) (w : List ℕ) (t : State) → Given p n k s → Ready (modulo p) k j (frame p n s) → j + 1 < k → w ≡ column-of n (getD s 0 []) j

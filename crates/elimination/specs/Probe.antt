@@ -13,7 +13,7 @@ use Rattle.basis.specs.Frame.{Frame, FrameWithin, In, column, Window, Change, c
 use Rattle.basis.specs.Replace.{Replaced, replaced-change, replaced-row, replaced-row-same, replaced-T, replaced-T-same}
 use Rattle.elimination.specs.Shapes.{CompanionRows, rows-equal, Kept}
 use Rattle.elimination.specs.Killing.{monic-of-equal, corner, Kills, kills-in-frame, kills-difference, corner-kills}
-use Rattle.elimination.specs.Pass.{Ready, Chained}
+use Rattle.elimination.specs.Pass.{Ready, ready-first, Chained}
 use Rattle.elimination.specs.Settle.{Headed, chained-headed, Settled}
 
 module _ {R : Type 0} (K : Ring R) where
@@ -68,6 +68,9 @@ module _ {R : Type 0} (K : Ring R) where
   pub probe-start : (n k m : ℕ) (X : Frame K) → Headed K k m X → CompanionRows K m (X .B) → Probing n k m m X X
   probe-start n k m X x l = record { change = change-none K n k X; headed = x; flat = l; kills = λ A s q a b. absurd (omega arith) }
 
+  pub probing-of-settled : (n k m : ℕ) (X Y : Frame K) → Settled K n k m X m Y → Probing n k m m X Y
+  probing-of-settled n k m X Y s = record { change = s .change; headed = s .headed; flat = s .flat refl; kills = λ A s q a b. absurd (omega arith) }
+
   -- the block's polynomial kills the block's vectors
   own : (n k m : ℕ) (X : Frame K) → k ≤ n → Headed K k m X → (A : Matrix K) → In K n A X → (q : ℕ) → q < m → Kills K n A (corner K m (X .B)) (column K (X .T) q)
   own n k m X kn x A s q l = let fits : m ≤ n = omega (arith, x .fits) in
@@ -82,16 +85,13 @@ module _ {R : Type 0} (K : Ring R) where
     kills = λ e A s q l. elim (decLt q m) [ yes a ↦ own n k m Y kn (x .headed) A (x .change .basis A s) q a | no a ↦ x .kills A s q (omega arith) l ];
   }
 
-  -- e_j is killed as it stands
-  pub probe-skip : (n k m j : ℕ) (X Y : Frame K) → j < n → Probing n k m j X Y → Kills K n (Y .B) (corner K m (Y .B)) (delta K j) → Probing n k m (suc j) X Y
-  probe-skip n k m j X Y jn x h = record {
+  -- e_j .. e_(r-1) are killed as they stand
+  pub probe-skip : (n k m j r : ℕ) (X Y : Frame K) → r ≤ n → Probing n k m j X Y → ((q : ℕ) → j ≤ q → q < r → Kills K n (Y .B) (corner K m (Y .B)) (delta K q)) → Probing n k m r X Y
+  probe-skip n k m j r X Y rn x h = record {
     change = x .change;
     headed = x .headed;
     flat = x .flat;
-    kills = λ A s q a l. elim (ℕ-discrete j q) [
-      | yes e ↦ subst (λ (z : ℕ). Kills K n A (corner K m (Y .B)) (column K (Y .T) z)) e (kills-in-frame K n A Y (corner K m (Y .B)) j jn (x .change .basis A s) h)
-      | no e ↦ x .kills A s q a (omega arith)
-    ];
+    kills = λ A s q a l. elim (decLt q j) [ yes e ↦ x .kills A s q a e | no e ↦ kills-in-frame K n A Y (corner K m (Y .B)) q (omega arith) (x .change .basis A s) (h q (omega arith) l) ];
   }
 
   -- e_0 + e_j takes the place of e_0 in Y, which makes Z, and a pass from there makes W
@@ -110,7 +110,7 @@ module _ {R : Type 0} (K : Ring R) where
   joined-change n k j w Y Z kn jk y is r = replaced-change K n k 0 w Y Z (omega arith) kn (joined-upto k j w jk is) y r
 
   pub joined-ready : (n k j : ℕ) (w : Vector K) (Y Z : Frame K) → k ≤ n → j < k → FrameWithin K n Y → Window K k (Y .B) → ((i : ℕ) → w i ≡ delta K 0 i ⊕ delta K j i) → Replaced K n 0 w Y Z → Ready K k 0 Z
-  joined-ready n k j w Y Z kn jk y v is r = record { window = joined-change n k j w Y Z kn jk y is r .window v; columns = λ i t g. absurd (omega arith) }
+  joined-ready n k j w Y Z kn jk y v is r = ready-first K k Z (joined-change n k j w Y Z kn jk y is r .window v)
 
   module _ (n k m j : ℕ) (X Y W : Frame K) (kn : k ≤ n) (mj : m ≤ j) (jk : j < k) (y : FrameWithin K n Y) (x : Probing n k m j X Y) (J : Joined n k j Y W) where
     upto-n : Upto K n (J .w)

@@ -62,6 +62,13 @@ module _ {R : Type 0} (K : Ring R) where
     pub grown : m ≤ h
     pub flat : h ≡ m → CompanionRows K m (Y .B)
 
+  -- nothing is left behind the block in the window
+  pub headed-flat : (k m : ℕ) (X : Frame K) → Headed k m X → ((i t : ℕ) → i < m → m ≤ t → t < k → X .B i t ≡ 𝟘) → CompanionRows K m (X .B)
+  headed-flat k m X h z = record {
+    unit = λ i t a b. h .columns .unit i t b;
+    right = λ i t a b. elim (decLt t k) [ yes c ↦ z i t a b c | no c ↦ h .window .right i t (omega (arith, h .fits)) (omega arith) ];
+  }
+
   -- row 0 has nothing either
   pub settled-same : (n k m : ℕ) (X Y : Frame K) → Headed k m X → Cleared n k m 0 X Y → ((t : ℕ) → m ≤ t → t < k → Y .B 0 t ≡ 𝟘) → Settled n k m X m Y
   settled-same n k m X Y x c z =
@@ -70,13 +77,7 @@ module _ {R : Type 0} (K : Ring R) where
         change = c .change;
         headed = y;
         grown = omega arith;
-        flat = λ e. record {
-          unit = λ i t g h. y .columns .unit i t h;
-          right = λ i t g h. elim (ℕ-discrete 0 i) [
-            | yes d ↦ subst (λ (q : ℕ). Y .B q t ≡ 𝟘) d (elim (decLt t k) [ yes u ↦ z t h u | no u ↦ y .window .right 0 t (omega (arith, x .some, x .fits)) (omega arith) ])
-            | no d ↦ c .zeros i t (omega arith) g h
-          ];
-        };
+        flat = λ e. headed-flat k m Y y (λ i t a b l. elim (ℕ-discrete 0 i) [ yes d ↦ subst (λ (q : ℕ). Y .B q t ≡ 𝟘) d (z t b l) | no d ↦ c .zeros i t (omega arith) a b ]);
       }
 
   pub chained-headed : (n k : ℕ) (X : Frame K) (m : ℕ) (Y : Frame K) → Chained K n k X m Y → Headed k m Y

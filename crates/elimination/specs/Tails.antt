@@ -2,6 +2,7 @@
 use mathlib.Core.Path.{_≡_, _∙_, ap}
 use mathlib.Core.List.{List}
 use Prim.Native.Nat.{ℕ, zero, _-_, _%_, _≤_, _<_}
+use native.Mathlib.Nat.{mod-lt}
 use native.Mathlib.Decide.{decLt}
 use native.Mathlib.Omega.{arith}
 use lib.ListN.{getD}
@@ -37,3 +38,12 @@ module _ (p n m k : ℕ) (x : List ℕ) (h : 0 < p) (kn : k ≤ n) (f : FieldRow
   pub tail-high : (t : ℕ) → m ≤ t → t < k → vector p n (tail-of p m k x) t ≡ modulo p .minus (residue p (getD x t 0))
   tail-high t l g = vector-inside p n _ t (omega arith) ∙ ap (residue p) (tail-at t g ∙ below-outside m t _ _ l) ∙ residue-remainder p _ h
       ∙ residue-minus p (getD x t 0) (omega (arith, f .small t (omega arith))) h
+
+  tail-small : (t : ℕ) → t < k → getD (tail-of p m k x) t 0 < p
+  tail-small t l = rw (tail-at t l) (elim (decLt t m) [ yes g ↦ rw (below-inside m t 0 ((p - getD x t 0) % p) g) h | no g ↦ rw (below-outside m t 0 ((p - getD x t 0) % p) (omega arith)) (mod-lt _ h) ])
+
+  pub tail-field : FieldRow p n (tail-of p m k x)
+  tail-field = record {
+    small = λ t l. elim (decLt t k) [ yes g ↦ tail-small t g | no g ↦ rw (tail-outside t (omega arith)) h ];
+    rest = λ t l. tail-outside t (omega arith);
+  }

@@ -16,16 +16,18 @@ ghost use Rattle.elimination.specs.Probe.{Joined, Probed, Split};
 ghost use Rattle.basis.specs.State.{frame, Fields, Given};
 ghost use Rattle.elimination.specs.Tails.{tail-of};
 ghost use Rattle.elimination.specs.Powers.{applied, KilledTest};
+ghost use Rattle.elimination.specs.Tests.{NothingBehind, FirstUnkilled};
 use crate::passes::chain;
+use crate::passes::first_pivot;
 use crate::passes::reach;
 use basis::remainders::factor;
 use basis::steps::State;
+use basis::steps::add_columns;
 use basis::steps::add_multiple;
 use basis::steps::column;
 use basis::steps::combination;
 use basis::steps::first_nonzero;
 use basis::steps::inner;
-use basis::steps::plus_outer;
 use basis::steps::replace;
 use basis::steps::with_entry;
 use forms::ORDER;
@@ -63,28 +65,25 @@ fn wipe(s: State, a: usize, m: usize, k: usize, n: usize, p: u8) -> State
     requires { ⌜ Given p n k s × Headed (modulo p) k m (frame p n s) × (a + 1 < m) ⌝ }
     ensures { λ r. ⌜ Fields p n r × Wiped (modulo p) n k m a (frame p n s) (frame p n r) ⌝ }
 {
-    let x = s[0][a + 1];
-    if k <= first_nonzero(x, m, k) {
-        return s;
-    }
-    let v = tail(x, m, k, n, p);
-    let u = with_entry([0u8; ORDER], a, p - 1);
-    let c = plus_outer(s[0], column(&s[0], a, n), v, n, p);
-    let b = plus_outer(c, u, combination(v, c, n, p), n, p);
-    let t = plus_outer(s[1], column(&s[1], a, n), v, n, p);
-    let i = plus_outer(s[2], u, combination(v, s[2], n, p), n, p);
-    [b, t, i]
+    let v = tail(s[0][a + 1], m, k, n, p);
+    let mut c = add_columns(s, a, v, n, p);
+    let f = factor(p);
+    c[0][a] = add_multiple(c[0][a], p - 1, combination(v, c[0], n, p), p, f);
+    c[2][a] = add_multiple(c[2][a], p - 1, combination(v, c[2], n, p), p, f);
+    c
 }
 
-// Rows 1 .. m - 1 are wiped.
+// Rows 1 .. m - 1 are wiped where they have something from column m on.
 fn clear(mut s: State, m: usize, k: usize, n: usize, p: u8) -> State
     requires { ⌜ Given p n k s × Headed (modulo p) k m (frame p n s) ⌝ }
     ensures { λ r. ⌜ Fields p n r × Cleared (modulo p) n k m 0 (frame p n s) (frame p n r) ⌝ }
 {
     let mut r = m - 1;
     while 0 < r {
-        let x = wipe(s, r - 1, m, k, n, p);
-        s = x;
+        if first_nonzero(s[0][r], m, k) < k {
+            let x = wipe(s, r - 1, m, k, n, p);
+            s = x;
+        }
         r = r - 1;
     }
     s
@@ -117,7 +116,7 @@ fn apply(b: &Mat, g: Row, n: usize, p: u8, factor: u64) -> Row
     r
 }
 
-fn same_row(x: Row, y: Row, n: usize) -> bool
+pub fn same_row(x: Row, y: Row, n: usize) -> bool
     requires { ⌜ n ≤ order-limit ⌝ }
     ensures { λ r. ⌜ (r ≡ true → (i : ℕ) → i < n → getD x i 0 ≡ getD y i 0) ⌝ }
 {
@@ -141,7 +140,7 @@ fn killed(b: &Mat, j: usize, m: usize, n: usize, p: u8) -> bool
     let mut v = with_entry([0u8; ORDER], j, b[0][m - 1]);
     let mut e = 1;
     while e < m {
-        let y = add_multiple(v, b[e][m - 1], g, n, p, f);
+        let y = add_multiple(v, b[e][m - 1], g, p, f);
         let x = apply(b, g, n, p, f);
         v = y;
         g = x;
@@ -159,48 +158,83 @@ fn join(s: State, j: usize, k: usize, n: usize, p: u8) -> State
     chain(replace(s, 0, w, n, p), k, n, p)
 }
 
-// Nothing is left behind the block: a longer one is made, or the block's polynomial kills the window.
-fn probe(mut s: State, m: usize, k: usize, n: usize, p: u8) -> State
-    requires { ⌜ Given p n k s × Headed (modulo p) k m (frame p n s) × CompanionRows (modulo p) m (matrix p n (getD s 0 [])) ⌝ }
+// The first vector from e_from on, below k, that the polynomial of the block of m is not found to kill; k if there is none.
+fn first_unkilled(b: &Mat, from: usize, m: usize, k: usize, n: usize, p: u8) -> usize
+    requires { ⌜ (n ≤ order-limit) × (0 < p) × (from ≤ k) × (k ≤ n) × (0 < m) × (m ≤ n) × FieldMatrix p n (now b) ⌝ }
+    ensures { λ r. ⌜ FirstUnkilled p n m from k (now (b .entry)) r ⌝ }
+{
+    let mut j = from;
+    while j < k {
+        if !killed(b, j, m, n, p) {
+            return j;
+        }
+        j = j + 1;
+    }
+    k
+}
+
+// Nothing is left behind the block, and e_from is the first vector that is not found killed: a longer block is made, or the block's polynomial
+// kills the window.
+fn probe(mut s: State, from: usize, m: usize, k: usize, n: usize, p: u8) -> State
+    requires { ⌜ Given p n k s × Headed (modulo p) k m (frame p n s) × CompanionRows (modulo p) m (matrix p n (getD s 0 [])) × (from < k) × FirstUnkilled p n m m k (getD s 0 []) from ⌝ }
     ensures { λ r. ⌜ Fields p n r × ((h : ℕ) × Probed (modulo p) n k m (frame p n s) h (frame p n r)) ⌝ }
 {
-    let mut j = m;
-    while j < k {
-        if killed(&s[0], j, m, n, p) {
-            j = j + 1;
-            continue;
-        }
+    let mut j = from;
+    loop {
         let x = join(s, j, k, n, p);
         s = x;
         if m < reach(&s[0], k) {
             return s;
         }
-        j = j + 1;
+        j = first_unkilled(&s[0], j + 1, m, k, n, p);
+        if k <= j {
+            return s;
+        }
     }
-    s
 }
 
-// One round: a longer block, or the block's polynomial kills the window.
-fn round(s: State, m: usize, k: usize, n: usize, p: u8) -> State
-    requires { ⌜ Given p n k s × Headed (modulo p) k m (frame p n s) ⌝ }
-    ensures { λ r. ⌜ Fields p n r × ((h : ℕ) × Probed (modulo p) n k m (frame p n s) h (frame p n r)) ⌝ }
+// Whether rows 0 .. m - 1 have nothing in the columns m .. k - 1.
+fn is_settled(b: &Mat, m: usize, k: usize) -> bool
+    requires { ⌜ (m ≤ k) × (k ≤ order-limit) ⌝ }
+    ensures { λ r. ⌜ (r ≡ true → NothingBehind m k (now (b .entry))) ⌝ }
 {
-    let c = settle(s, m, k, n, p);
-    if m < reach(&c[0], k) {
-        return c;
+    let mut i = 0;
+    while i < m {
+        if first_nonzero(b[i], m, k) < k {
+            return false;
+        }
+        i = i + 1;
     }
-    probe(c, m, k, n, p)
+    true
 }
 
-// The window becomes a block whose polynomial kills all of it, and the rest.
+// The window becomes a block whose polynomial kills all of it, and the rest: each turn makes a longer block or is the last.
+// A state is handed on only where the matrix shows that there is something to do.
 pub fn split(s: State, k: usize, n: usize, p: u8) -> State
     requires { ⌜ Given p n k s × (0 < k) × Window (modulo p) k (matrix p n (getD s 0 [])) ⌝ }
     ensures { λ r. ⌜ Fields p n r × ((m : ℕ) × Split (modulo p) n k (frame p n s) m (frame p n r)) ⌝ }
 {
-    let mut c = chain(s, k, n, p);
+    let mut c = s;
+    if first_pivot(&c[0], 0, k) < k {
+        let y = chain(c, k, n, p);
+        c = y;
+    }
     let mut m = reach(&c[0], k);
     loop {
-        let x = round(c, m, k, n, p);
+        if !is_settled(&c[0], m, k) {
+            let x = settle(c, m, k, n, p);
+            c = x;
+            let h = reach(&c[0], k);
+            if m < h {
+                m = h;
+                continue;
+            }
+        }
+        let j = first_unkilled(&c[0], m, m, k, n, p);
+        if k <= j {
+            return c;
+        }
+        let x = probe(c, j, m, k, n, p);
         c = x;
         let h = reach(&c[0], k);
         if h <= m {

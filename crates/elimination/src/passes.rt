@@ -1,12 +1,9 @@
 // The pass: column after column takes the place of the next basis vector, as long as it has a pivot in the window [0,k).
-ghost use mathlib.Core.Logic.{_≢_};
-ghost use mathlib.Core.List.{[]};
-ghost use Prim.Native.Nat.{ℕ, suc, _+_, _≤_, _<_};
-ghost use lib.ListN.{getD};
+ghost use Prim.Native.Nat.{ℕ, _+_, _≤_, _<_};
 ghost use Rattle.forms.specs.Numbers.{order-limit};
 ghost use Rattle.algebra.specs.Modular.{modulo};
-ghost use Rattle.matrices.specs.Matrices.{cell, matrix};
-ghost use Rattle.elimination.specs.Pass.{Ready, Passed, Pulled, Chained};
+ghost use Rattle.matrices.specs.Matrices.{cell};
+ghost use Rattle.elimination.specs.Pass.{Ready, Chained};
 ghost use Rattle.basis.specs.State.{frame, Fields, Given};
 ghost use Rattle.basis.specs.Searches.{FirstNonzero};
 ghost use Rattle.elimination.specs.Reaching.{Reach};
@@ -17,7 +14,7 @@ use matrices::Mat;
 use ordering::exchange::exchange_vectors;
 
 // The first row from j + 1 on, below k, where column j is not zero; k if there is none.
-fn first_pivot(b: &Mat, j: usize, k: usize) -> usize
+pub fn first_pivot(b: &Mat, j: usize, k: usize) -> usize
     requires { ⌜ (j < k) × (k ≤ order-limit) ⌝ }
     ensures { λ r. ⌜ FirstNonzero (λ i. cell (now (b .entry)) i j) (j + 1) k r ⌝ }
 {
@@ -31,27 +28,7 @@ fn first_pivot(b: &Mat, j: usize, k: usize) -> usize
     k
 }
 
-// The first pivot of column j, at row q, comes to row j + 1.
-fn pull(s: State, j: usize, q: usize, k: usize, n: usize, p: u8) -> State
-    requires { ⌜ Given p n k s × (q < k) × Ready (modulo p) k j (frame p n s) × FirstNonzero (λ i. cell (getD s 0 []) i j) (j + 1) k q ⌝ }
-    ensures { λ r. ⌜ Fields p n r × Pulled (modulo p) n k j (frame p n s) (frame p n r) ⌝ }
-{
-    if q == j + 1 {
-        return s;
-    }
-    exchange_vectors(s, j + 1, q, n)
-}
-
-// Column j takes the place of e_(j+1).
-fn push(s: State, j: usize, k: usize, n: usize, p: u8) -> State
-    requires { ⌜ Given p n k s × (j + 1 < k) × Ready (modulo p) k j (frame p n s) × (matrix p n (getD s 0 []) (suc j) j ≢ modulo p .zero) ⌝ }
-    ensures { λ r. ⌜ Fields p n r × Passed (modulo p) n k j (frame p n s) (suc j) (suc j) (frame p n r) ⌝ }
-{
-    let w = column(&s[0], j, n);
-    replace(s, j + 1, w, n, p)
-}
-
-// From column 0 on, as far as there are pivots.
+// From column 0 on, as far as there are pivots: the first pivot of column j comes to row j + 1, and column j takes the place of e_(j+1).
 pub fn chain(mut s: State, k: usize, n: usize, p: u8) -> State
     requires { ⌜ Given p n k s × (0 < k) × Ready (modulo p) k 0 (frame p n s) ⌝ }
     ensures { λ r. ⌜ Fields p n r × ((m : ℕ) × Chained (modulo p) n k (frame p n s) m (frame p n r)) ⌝ }
@@ -62,7 +39,12 @@ pub fn chain(mut s: State, k: usize, n: usize, p: u8) -> State
         if k <= q {
             return s;
         }
-        let x = push(pull(s, j, q, k, n, p), j, k, n, p);
+        if j + 1 < q {
+            let y = exchange_vectors(s, j + 1, q, n);
+            s = y;
+        }
+        let w = column(&s[0], j, n);
+        let x = replace(s, j + 1, w, n, p);
         s = x;
         j = j + 1;
     }

@@ -1,8 +1,8 @@
 -- Which coefficients of an entry of P, Q and their inverses can be other than zero, and what each of them is.
 use mathlib.Core.Path.{_≡_, refl, sym, _∙_, ap, ap₂, fun-ext}
 use mathlib.Core.Bool.{Bool, true, false, cond}
-use mathlib.Core.List.{List, []}
-use Prim.Native.Nat.{ℕ, zero, suc, _+_, _*_, _-_, _%_, _≤_, _<_}
+use mathlib.Core.List.{[]}
+use Prim.Native.Nat.{ℕ, suc, _+_, _*_, _-_, _%_, _≤_, _<_}
 use native.Mathlib.Nat.{add-zero, zero-add, mul-zero, zero-mul, mul-one, one-mul, zero-mod, mod-eq-of-lt}
 use native.Mathlib.Omega.{arith}
 use lib.Dec.{eqb}
@@ -10,7 +10,6 @@ use lib.ListN.{getD}
 use borrow.Author.Tests.{le-leb, lt-leb, eq-eqb, ne-eqb}
 use Rattle.forms.specs.Numbers.{total}
 use Rattle.forms.specs.Tests.{total-suc, total-equal, total-of-zeros, total-short}
-use Rattle.forms.specs.Polynomials.{Coefficients}
 use Rattle.forms.specs.ClosedForms.{opposite}
 use Rattle.matrices.specs.Matrices.{cell}
 use Rattle.basis.specs.State.{Array, State}

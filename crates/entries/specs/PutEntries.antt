@@ -2,11 +2,11 @@
 use mathlib.Core.Path.{_≡_, sym, _∙_, ap, ap₂, subst}
 use mathlib.Core.List.{List, [], _∷_, _++_, append-assoc}
 use Prim.Native.Nat.{ℕ, zero, suc, _+_, _*_, _-_, _≤_, _<_}
-use native.Mathlib.Nat.{add-zero, add-suc, suc-mul, mul-le-mul}
+use native.Mathlib.Nat.{add-zero, suc-mul, mul-le-mul}
 use native.Mathlib.Numerals.{add-one}
 use native.Mathlib.Omega.{arith}
 use lib.ListN.{length, take, drop, set, getD, replicate, length-append, length-replicate, getD-replicate, List·getD-append}
-use lib.Seq.{length-take-le, take-at, drop-at, drop-drop, getD-append-add, getD-drop, getD-take, set-getD}
+use lib.Seq.{length-take-le, take-at, drop-at, getD-append-add, getD-drop, getD-take, set-getD}
 use Rattle.forms.specs.Numbers.{at}
 use Rattle.forms.specs.Polynomials.{Coefficients}
 use Rattle.forms.specs.Certificate.{joined}

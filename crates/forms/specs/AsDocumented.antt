@@ -2,7 +2,7 @@
 use mathlib.Core.Path.{_≡_, refl}
 use mathlib.Core.List.{List, [], _∷_, _++_}
 use Prim.Native.Nat.{ℕ}
-use lib.ListN.{length, take}
+use lib.ListN.{take}
 use Rattle.forms.specs.Numbers.{total, every, prime}
 use Rattle.forms.specs.Answers.{fine, refuse, ask, each}
 use Rattle.forms.specs.Reciprocals.{reciprocal-asked}

@@ -9,7 +9,7 @@ use native.Mathlib.Omega.{arith}
 use lib.Dec.{eqb, leb, eqb·suc-zero, eqb·suc-suc, le→leb, leb→le}
 use Rattle.algebra.specs.Ring.{Ring, times-commutative, times-minus}
 use Rattle.algebra.specs.Solver.{_:+_, _:*_, :-_, :0, solve₃}
-use Rattle.algebra.specs.Sum.{sum, sum-equal}
+use Rattle.algebra.specs.Sum.{sum-equal}
 use Rattle.algebra.specs.Matrix.{Matrix, matrix-equal, product, product-within}
 use Rattle.algebra.specs.Series.{Series, cons}
 use Rattle.algebra.specs.Polynomial.{Polynomial, polynomials, polynomial-equal, plus-coefficient, sum-coefficient, scalar-times-coefficient, X}

@@ -10,7 +10,7 @@ use lib.ListN.{length, drop, List·getD-append}
 use lib.Seq.{drop-at}
 use Rattle.forms.specs.Numbers.{at, prime}
 use Rattle.forms.specs.Answers.{Asked, fine, refuse, ask}
-use Rattle.forms.specs.Certificate.{Certificate, mark, payload, layout, size, offset, certificate-length}
+use Rattle.forms.specs.Certificate.{Certificate, payload, layout, size, offset, certificate-length}
 use Rattle.forms.specs.Words.{Certified, LaidOut}
 use Rattle.forms.specs.Operations.{analysis-asked, Analyses, Checks, Finds}
 use Rattle.forms.specs.Reciprocals.{reciprocal-asked, InverseOf, Reciprocates}

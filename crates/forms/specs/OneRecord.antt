@@ -10,8 +10,8 @@ use lib.ListN.{length, take, drop, length-take, length-drop}
 use lib.Seq.{drop-cons, getD-take, getD-drop}
 use Rattle.forms.specs.Numbers.{at}
 use Rattle.forms.specs.Answers.{Asked, fine, _then_, ask, each}
-use Rattle.forms.specs.Certificate.{mark, payload, record-bytes, size, offset, part}
-use Rattle.forms.specs.Reading.{order-and-prime, record-asked, reading}
+use Rattle.forms.specs.Certificate.{mark, record-bytes, size, offset, part}
+use Rattle.forms.specs.Reading.{order-and-prime, record-asked}
 use Rattle.forms.specs.Tests.{equal-holds, and-parts, and-holds, ask-fine, fine-ask, then-fine, fine-then}
 use Rattle.forms.specs.Records.{record-bytes-laid}
 

@@ -9,7 +9,7 @@ use native.Mathlib.Decide.{decLt, decLe}
 use native.Mathlib.Omega.{arith}
 use lib.Dec.{T, eqb→eq, lit<}
 use Rattle.algebra.specs.Modular.{Prime, positive}
-use Rattle.forms.specs.Answers.{fine, each}
+use Rattle.forms.specs.Answers.{fine}
 use Rattle.forms.specs.Polynomials.{Coefficients, degree, divides}
 use Rattle.forms.specs.Matrices.{Entries, PolynomialEntries, matrix, polynomial-matrix, diagonal, unit, polynomial-unit, diagonal-matrix, characteristic, field-product, polynomial-product}
 use Rattle.forms.specs.Frobenius.{frobenius}

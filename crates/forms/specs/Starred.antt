@@ -2,10 +2,9 @@
 -- A certificate of each stands beside the table; one computed test over both turns into the statement.
 use mathlib.Core.Path.{_≡_, refl, subst₃}
 use mathlib.Core.Bool.{Bool, true, false, _&&_}
-use mathlib.Core.List.{List, [], _∷_, _++_}
+use mathlib.Core.List.{List, [], _∷_}
 use Prim.Native.Nat.{ℕ}
 use lib.Dec.{T, eqb, eqb→eq}
-use lib.ListN.{length}
 use Rattle.algebra.specs.Kernel.{All}
 use Rattle.forms.specs.Numbers.{total, every, prime}
 use Rattle.forms.specs.Answers.{Asked, fine, refuse, ask, each}

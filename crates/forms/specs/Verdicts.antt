@@ -1,13 +1,13 @@
 -- What the check accepts: exactly the layouts of certificates as demand 2 says; so it accepts what the analysis writes, and what it
 -- accepts of A has the analysis's D and F.
-use mathlib.Core.Path.{_≡_, refl, sym, _∙_, ap, subst}
+use mathlib.Core.Path.{_≡_, sym, _∙_, ap, subst}
 use mathlib.Core.Logic.{_↔_}
 use mathlib.Core.List.{List, _++_}
 use Prim.Native.Nat.{ℕ}
 use lib.ListN.{length, drop}
 use Rattle.forms.specs.Answers.{fine}
 use Rattle.forms.specs.Certificate.{Certificate, layout, certificate-length}
-use Rattle.forms.specs.Reading.{reading, certificate-of}
+use Rattle.forms.specs.Reading.{certificate-of}
 use Rattle.forms.specs.Rules.{rules, verdict}
 use Rattle.forms.specs.Words.{Certified, LaidOut}
 use Rattle.forms.specs.Operations.{analysis-asked, Analyses}

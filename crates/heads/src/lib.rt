@@ -2,7 +2,6 @@
 ghost use mathlib.Core.Path.{_≡_};
 ghost use mathlib.Core.Bool.{cond};
 ghost use Prim.Native.Nat.{_+_, _-_, _≤_, _<_};
-ghost use lib.ListN.{getD};
 ghost use Rattle.forms.specs.Numbers.{order-limit};
 ghost use Rattle.heads.specs.Heads.{begins, LastRow, LastRows, other, others, place, Ordered};
 use forms::ORDER;

@@ -8,7 +8,6 @@ use Rattle.forms.specs.Numbers.{total}
 use Rattle.forms.specs.Matrices.{field-product}
 use Rattle.forms.specs.Words.{FieldEqual}
 use Rattle.forms.specs.Rings.{field-of-equal, field-of-product}
-use Rattle.algebra.specs.Sum.{sum}
 use Rattle.algebra.specs.Matrix.{product}
 use Rattle.algebra.specs.Modular.{modulo}
 use Rattle.matrices.specs.Filling.{filled, filled-inside}

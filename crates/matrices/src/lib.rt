@@ -1,7 +1,6 @@
 // Field matrices by value: twelve rows of twelve residues, with rows and columns from n on zero.
 ghost use mathlib.Core.Path.{_≡_};
-ghost use mathlib.Core.List.{List, []};
-ghost use Prim.Native.Nat.{ℕ, _*_, _%_, _≤_, _<_};
+ghost use Prim.Native.Nat.{_*_, _%_, _≤_, _<_};
 ghost use lib.ListN.{getD};
 ghost use Rattle.forms.specs.Numbers.{total, order-limit};
 ghost use Rattle.matrices.specs.Matrices.{cell};
@@ -22,9 +21,9 @@ pub fn wide(x: u8) -> u32
 }
 
 // Row v times column j of b.
-fn inner_product(v: Row, b: Mat, j: usize, n: usize, p: u8) -> u8
+fn inner_product(v: Row, b: &Mat, j: usize, n: usize, p: u8) -> u8
     requires { ⌜ (n ≤ order-limit) × (j < order-limit) × (0 < p) ⌝ }
-    ensures { λ r. ⌜ r ≡ total n (λ k. getD v k 0 * cell b k j) % p ⌝ }
+    ensures { λ r. ⌜ r ≡ total n (λ k. getD v k 0 * cell (now (b .entry)) k j) % p ⌝ }
 {
     let mut sum: u32 = 0;
     let mut k = 0;
@@ -38,9 +37,9 @@ fn inner_product(v: Row, b: Mat, j: usize, n: usize, p: u8) -> u8
 }
 
 // Row v times b.
-pub fn product_row(v: Row, b: Mat, n: usize, p: u8) -> Row
+fn product_row(v: Row, b: &Mat, n: usize, p: u8) -> Row
     requires { ⌜ (n ≤ order-limit) × (0 < p) ⌝ }
-    ensures { λ r. ⌜ r ≡ product-row p n v b ⌝ }
+    ensures { λ r. ⌜ r ≡ product-row p n v (now (b .entry)) ⌝ }
 {
     let mut r = [0u8; ORDER];
     let mut j = 0;
@@ -59,7 +58,7 @@ pub fn product(a: Mat, b: Mat, n: usize, p: u8) -> Mat
     let mut r = [[0u8; ORDER]; ORDER];
     let mut i = 0;
     while i < n {
-        r[i] = product_row(a[i], b, n, p);
+        r[i] = product_row(a[i], &b, n, p);
         i = i + 1;
     }
     r
@@ -83,7 +82,7 @@ pub fn identity(n: usize) -> Mat
     let mut e = [[0u8; ORDER]; ORDER];
     let mut i = 0;
     while i < n {
-        e[i] = unit_row(i);
+        e[i][i] = 1;
         i = i + 1;
     }
     e

@@ -2,3 +2,4 @@ pub mod Reordering
 pub mod Rotation
 pub mod Exchange
 pub mod Orders
+pub mod Turning

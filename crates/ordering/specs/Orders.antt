@@ -1,49 +1,50 @@
--- The state in another order of the basis vectors: what the loops that move columns and rows say of field matrices.
-use mathlib.Core.Path.{_≡_, refl, sym, _∙_, ap}
-use mathlib.Core.List.{List, [], _∷_}
+-- The state in another order of the basis vectors: what moved columns and rows say of field matrices, and two of them exchanged.
+use mathlib.Core.Path.{_≡_, sym, _∙_, ap}
+use mathlib.Core.List.{List, []}
 use Prim.Native.Nat.{ℕ, _≤_, _<_}
 use native.Mathlib.Omega.{arith}
 use lib.ListN.{getD}
 use Rattle.forms.specs.Numbers.{order-limit}
 use Rattle.algebra.specs.Modular.{residue, modulo}
-use Rattle.matrices.specs.Filling.{filled, filled-inside}
-use Rattle.matrices.specs.Matrices.{cell, matrix, matrix-inside, FieldRow, FieldMatrix, Square, zero-row, zero-rows, filled-row, filled-cell, filled-field}
+use Rattle.matrices.specs.Filling.{filled}
+use Rattle.matrices.specs.Matrices.{cell, matrix, matrix-inside, FieldRow, FieldMatrix, Square}
 use Rattle.ordering.specs.Exchange.{exchange, exchange-other, exchange-below, exchanged, exchanged-at}
 use Rattle.basis.specs.Overwriting.{overwritten-cell, overwritten-field}
 use Rattle.ordering.specs.Reordering.{Reordered}
-use Rattle.ordering.specs.Rotation.{rotation, rotation-none, rotation-inside}
-use Rattle.basis.specs.State.{Array, State, frame, Fields, field-row}
+use Rattle.basis.specs.State.{Array, State, frame, Fields}
 
--- r has the columns of x in the order σ
-pub record ColumnsIn (n : ℕ) (σ : ℕ → ℕ) (x r : Array) : Type 0 where
-  pub cells : (i j : ℕ) → i < n → j < n → cell r i j ≡ cell x i (σ j)
+-- r has the rows of x in the order ρ, and the columns in the order σ
+pub record Moved (n : ℕ) (ρ σ : ℕ → ℕ) (x r : Array) : Type 0 where
+  pub cells : (i j : ℕ) → i < n → j < n → cell r i j ≡ cell x (ρ i) (σ j)
   pub field : (p : ℕ) → FieldMatrix p n x → FieldMatrix p n r
 
--- r has the rows of x in the order σ
-pub record RowsIn (n : ℕ) (σ : ℕ → ℕ) (x r : Array) : Type 0 where
-  pub cells : (i j : ℕ) → i < n → j < n → cell r i j ≡ cell x (σ i) j
-  pub field : (p : ℕ) → FieldMatrix p n x → FieldMatrix p n r
+-- the columns alone, and the rows alone
+abbrev pub ColumnsIn : ℕ → (ℕ → ℕ) → Array → Array → Type 0
+ColumnsIn n σ = Moved n (λ i. i) σ
+
+abbrev pub RowsIn : ℕ → (ℕ → ℕ) → Array → Array → Type 0
+RowsIn n σ = Moved n σ (λ i. i)
 
 -- r is the state s with the basis in the order σ
 pub record InOrder (n : ℕ) (σ : ℕ → ℕ) (s r : State) : Type 0 where
   pub reordered : (p : ℕ) → Reordered (modulo p) n σ (frame p n s) (frame p n r)
   pub fields : (p : ℕ) → Fields p n s → Fields p n r
 
-module _ (n : ℕ) (σ : ℕ → ℕ) (stays : (i : ℕ) → i < n → σ i < n) where
-  columns-entry : (p : ℕ) (x r : Array) → ColumnsIn n σ x r → (i j : ℕ) → i < n → j < n → matrix p n r i j ≡ matrix p n x i (σ j)
-  columns-entry p x r c i j a b = matrix-inside p n r i j a b ∙ ap (residue p) (c .cells i j a b) ∙ sym (matrix-inside p n x i (σ j) a (stays j b))
+moved-entry : (n : ℕ) (ρ σ : ℕ → ℕ) → ((i : ℕ) → i < n → ρ i < n) → ((i : ℕ) → i < n → σ i < n) → (p : ℕ) (x r : Array) → Moved n ρ σ x r → (i j : ℕ) → i < n → j < n → matrix p n r i j ≡ matrix p n x (ρ i) (σ j)
+moved-entry n ρ σ a b p x r m i j l g = matrix-inside p n r i j l g ∙ ap (residue p) (m .cells i j l g) ∙ sym (matrix-inside p n x (ρ i) (σ j) (a i l) (b j g))
 
-  rows-entry : (p : ℕ) (x r : Array) → RowsIn n σ x r → (i j : ℕ) → i < n → j < n → matrix p n r i j ≡ matrix p n x (σ i) j
-  rows-entry p x r c i j a b = matrix-inside p n r i j a b ∙ ap (residue p) (c .cells i j a b) ∙ sym (matrix-inside p n x (σ i) j (stays i a) b)
+module _ (n : ℕ) (σ : ℕ → ℕ) (inside : (i : ℕ) → i < n → σ i < n) where
+  pub columns-then-rows : (x c r : Array) → ColumnsIn n σ x c → RowsIn n σ c r → Moved n σ σ x r
+  columns-then-rows x c r a b = record { cells = λ i j l g. b .cells i j l g ∙ a .cells (σ i) j (inside i l) g; field = λ p f. b .field p (a .field p f) }
 
-  pub in-order : (s : State) (c b t f : Array) → ColumnsIn n σ (getD s 0 []) c → RowsIn n σ c b → ColumnsIn n σ (getD s 1 []) t → RowsIn n σ (getD s 2 []) f → InOrder n σ s (b ∷ t ∷ f ∷ [])
-  in-order s c b t f xc xb xt xf = record {
+  pub in-order : (s r : State) → Moved n σ σ (getD s 0 []) (getD r 0 []) → ColumnsIn n σ (getD s 1 []) (getD r 1 []) → RowsIn n σ (getD s 2 []) (getD r 2 []) → InOrder n σ s r
+  in-order s r b t i = record {
     reordered = λ p. record {
-      B = λ i j l g. rows-entry p c b xb i j l g ∙ columns-entry p (getD s 0 []) c xc (σ i) j (stays i l) g;
-      T = columns-entry p (getD s 1 []) t xt;
-      I = rows-entry p (getD s 2 []) f xf;
+      B = moved-entry n σ σ inside inside p (getD s 0 []) (getD r 0 []) b;
+      T = moved-entry n (λ i. i) σ (λ i l. l) inside p (getD s 1 []) (getD r 1 []) t;
+      I = moved-entry n σ (λ i. i) inside (λ i l. l) p (getD s 2 []) (getD r 2 []) i;
     };
-    fields = λ p h. record { B = xb .field p (xc .field p (h .B)); T = xt .field p (h .T); I = xf .field p (h .I) };
+    fields = λ p h. record { B = b .field p (h .B); T = t .field p (h .T); I = i .field p (h .I) };
   }
 
 -- the order on the places below n is all that counts
@@ -56,42 +57,6 @@ in-order-equal n σ τ s r e x = record {
   };
   fields = x .fields;
 }
-
--- a rotation that moves nothing
-pub in-order-none : (n m k : ℕ) (s : State) → m ≡ k → InOrder n (rotation m k) s s
-in-order-none n m k s e = in-order-equal n (λ i. i) (rotation m k) s s (λ i l. rw e (rotation-none k i)) (record { reordered = λ p. record { B = λ i j l g. refl; T = λ i j l g. refl; I = λ i j l g. refl }; fields = λ p h. h })
-
--- an order as a table of places
-pub record Places (n : ℕ) (q : List ℕ) : Type 0 where
-  pub inside : (i : ℕ) → i < n → getD q i 0 < n
-
-abbrev pub place : List ℕ → ℕ → ℕ
-place q i = getD q i 0
-
--- a row's entries in that order
-abbrev pub picked : ℕ → List ℕ → List ℕ → List ℕ
-picked n q x = filled n (λ j. getD x (place q j) 0) zero-row
-
-module _ (n : ℕ) (q : List ℕ) (o : Places n q) (x r : Array) where
-  pub picked-columns : r ≡ filled n (λ i. picked n q (getD x i [])) zero-rows → ColumnsIn n (place q) x r
-  picked-columns e = rw e (record {
-    cells = λ i j a b. filled-cell n (λ i. picked n q (getD x i [])) i j a ∙ filled-inside n (λ j. cell x i (place q j)) zero-row 0 j b;
-    field = λ p f. filled-field p n _ (λ i a. filled-row p n _ (λ j b. f .small i (place q j) a (o .inside j b)));
-  })
-
-  pub picked-rows : r ≡ filled n (λ i. getD x (place q i) []) zero-rows → RowsIn n (place q) x r
-  picked-rows e = rw e (record {
-    cells = λ i j a b. filled-cell n (λ i. getD x (place q i) []) i j a;
-    field = λ p f. filled-field p n _ (λ i a. field-row p n x (place q i) (o .inside i a) f);
-  })
-
--- the table of a rotation
-module _ (n m k : ℕ) (l : m ≤ k) (g : k ≤ n) (q : List ℕ) (e : q ≡ filled n (rotation m k) zero-row) where
-  pub rotation-place : (i : ℕ) → i < n → rotation m k i ≡ place q i
-  rotation-place i h = rw e (sym (filled-inside n (rotation m k) zero-row 0 i h))
-
-  pub rotation-places : Places n q
-  rotation-places = record { inside = λ i h. rw (sym (rotation-place i h)) (rotation-inside n m k i l g h) }
 
 -- two columns, or two rows, exchanged
 module _ (n a b : ℕ) (l : a < n) (g : b < n) (o : n ≤ order-limit) (x r : Array) (q : Square x) where

@@ -1,5 +1,4 @@
 // Two basis vectors exchange their places.
-ghost use mathlib.Core.Path.{_≡_};
 ghost use Prim.Native.Nat.{_≤_, _<_};
 ghost use Rattle.forms.specs.Numbers.{order-limit};
 ghost use Rattle.ordering.specs.Exchange.{exchange};

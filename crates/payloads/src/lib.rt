@@ -1,7 +1,7 @@
 // The payloads, put into the output row by row, and the ten records.
 ghost use mathlib.Core.Path.{_≡_};
 ghost use mathlib.Core.List.{[], _++_};
-ghost use Prim.Native.Nat.{suc, _+_, _*_, _≤_, _<_};
+ghost use Prim.Native.Nat.{_+_, _*_, _≤_, _<_};
 ghost use lib.ListN.{length, getD, drop};
 ghost use Rattle.forms.specs.Numbers.{order-limit};
 ghost use Rattle.forms.specs.Certificate.{payload, layout, size, certificate-length, joined};

@@ -1,4 +1,5 @@
 pub mod Sums
 pub mod Indices
 pub mod Products
+pub mod Lines
 pub mod Searches

@@ -8,12 +8,12 @@ use native.Mathlib.Numerals.{add-one}
 use native.Mathlib.Decide.{ℕ-discrete, decLt, decLe}
 use native.Mathlib.Nat.{mul-zero, zero-mul, add-zero, suc-mul, add-comm, add-assoc, mul-le-mul, le-antisymm}
 use native.Mathlib.Omega.{arith}
-use lib.Dec.{ltb, leb, ltb→lt, lt→ltb, leb→le, le→leb}
+use lib.Dec.{eqb, eqb→eq, ltb, leb, ltb→lt, lt→ltb, leb→le, le→leb}
 use lib.ListN.{length, set, length-set}
 use lib.Seq.{getD-set-same, getD-set-other}
 use Rattle.forms.specs.Numbers.{at, total, order-limit}
 use Rattle.forms.specs.Polynomials.{Coefficients, convolution}
-use Rattle.forms.specs.Tests.{cond-holds, cond-fails, total-equal, total-short}
+use Rattle.forms.specs.Tests.{cond-holds, cond-fails, equal-holds, total-equal, total-short}
 use Rattle.forms.specs.Bounds.{Short}
 
 -- as many coefficients as a product of the rules has at most
@@ -56,6 +56,9 @@ pub record Plus (after sums : List ℕ) (f : Coefficients) : Type 0 where
   pub long : length after ≡ length sums
   pub each : (k : ℕ) → at after k ≡ at sums k + f k
 
+pub plus-nothing : (sums : List ℕ) (f : Coefficients) → ((k : ℕ) → f k ≡ 0) → Plus sums sums f
+plus-nothing sums f e = record { long = refl; each = λ k. sym (ap (λ (x : ℕ). at sums k + x) (e k) ∙ add-zero _) }
+
 pub coefficients-inside : (n start : ℕ) (s : List ℕ) (k : ℕ) → k < n → coefficients n start s k ≡ at s (start + k)
 unfolding coefficients
 coefficients-inside n start s k l = cond-holds (ltb k n) _ 0 (lt→ltb k n l)
@@ -90,21 +93,18 @@ module _ (x shift start : ℕ) (s : List ℕ) where
   abbrev scaled : ℕ → Coefficients
   scaled n k = x * shifted shift (coefficients n start s) k
 
-  plus-nothing : (a n : ℕ) → n ≡ 0 → a + x * n ≡ a
-  plus-nothing a n e = ap (λ (b : ℕ). a + x * b) e ∙ ap (λ (b : ℕ). a + b) (mul-zero x) ∙ add-zero a
+  scaled-zero : (n k : ℕ) → shifted shift (coefficients n start s) k ≡ 0 → scaled n k ≡ 0
+  scaled-zero n k e = ap (λ (b : ℕ). x * b) e ∙ mul-zero x
 
   pub scaled-none : (sums : List ℕ) → Plus sums sums (scaled 0)
-  scaled-none sums = record { long = refl; each = λ k. sym (plus-nothing (at sums k) _ (none k)) }
-    where
-      none : (k : ℕ) → shifted shift (coefficients 0 start s) k ≡ 0
-      none k = elim (decLe shift k) [
-        | yes l ↦ shifted-inside shift _ k l ∙ coefficients-outside 0 start s (k - shift) (omega arith)
-        | no l ↦ shifted-outside shift _ k (omega arith)
-      ]
+  scaled-none sums = plus-nothing sums (scaled 0) (λ k. scaled-zero 0 k (elim (decLe shift k) [
+    | yes l ↦ shifted-inside shift _ k l ∙ coefficients-outside 0 start s (k - shift) (omega arith)
+    | no l ↦ shifted-outside shift _ k (omega arith)
+  ]))
 
   module _ (n : ℕ) (before sums : List ℕ) (h : Plus sums before (scaled n)) where
     pub scaled-ahead : at sums (shift + n) ≡ at before (shift + n)
-    scaled-ahead = h .each (shift + n) ∙ plus-nothing _ _ (shifted-inside shift _ (shift + n) (omega arith) ∙ coefficients-outside n start s (shift + n - shift) (omega arith))
+    scaled-ahead = h .each (shift + n) ∙ ap (λ (y : ℕ). at before (shift + n) + y) (scaled-zero n (shift + n) (shifted-inside shift _ (shift + n) (omega arith) ∙ coefficients-outside n start s (shift + n - shift) (omega arith))) ∙ add-zero _
 
     pub scaled-more : shift + n < length sums → (y : ℕ) → y ≡ at s (start + n) → Plus (set sums (shift + n) (at sums (shift + n) + x * y)) before (scaled (n + 1))
     scaled-more l y e = record {
@@ -120,6 +120,34 @@ module _ (x shift start : ℕ) (s : List ℕ) where
 
         new : shifted shift (coefficients (n + 1) start s) (shift + n) ≡ at s (start + n)
         new = shifted-inside shift _ (shift + n) (omega arith) ∙ coefficients-inside (n + 1) start s (shift + n - shift) (omega arith) ∙ ap (λ (i : ℕ). at s (start + i)) back
+
+-- y X^m
+unfoldable pub monomial : ℕ → ℕ → Coefficients
+monomial m y k = cond (eqb k m) y 0
+
+pub monomial-same : (m y k : ℕ) → k ≡ m → monomial m y k ≡ y
+unfolding monomial
+monomial-same m y k e = cond-holds (eqb k m) y 0 (equal-holds k m e)
+
+pub monomial-other : (m y k : ℕ) → k ≢ m → monomial m y k ≡ 0
+unfolding monomial
+monomial-other m y k o = cond-fails (eqb k m) y 0 (λ t. o (eqb→eq k m t))
+
+pub monomial-none : (m y k : ℕ) → y ≡ 0 → monomial m y k ≡ 0
+monomial-none m y k e = elim (ℕ-discrete k m) [ yes q ↦ monomial-same m y k q ∙ e | no o ↦ monomial-other m y k o ]
+
+pub monomial-small : (m y k b : ℕ) → y ≤ b → monomial m y k ≤ b
+monomial-small m y k b l = elim (ℕ-discrete k m) [ yes q ↦ rw (monomial-same m y k q) l | no o ↦ rw (monomial-other m y k o) (omega arith) ]
+
+-- one coefficient is added to
+pub plus-monomial : (sums : List ℕ) (m x y : ℕ) → m < length sums → x ≡ y → Plus (set sums m (at sums m + x)) sums (monomial m y)
+plus-monomial sums m x y l e = record {
+  long = simp length-set;
+  each = λ k. elim (ℕ-discrete k m) [
+    | yes q ↦ rw q (getD-set-same sums m _ 0 l ∙ ap (λ (z : ℕ). at sums m + z) (e ∙ sym (monomial-same m y m refl)))
+    | no o ↦ getD-set-other sums m k _ 0 o ∙ sym (ap (λ (z : ℕ). at sums k + z) (monomial-other m y k o) ∙ add-zero _)
+  ];
+}
 
 -- the loop that adds f g, coefficient by coefficient of f
 unfoldable pub products : ℕ → Coefficients → Coefficients → Coefficients
@@ -152,7 +180,7 @@ coefficients-small n start s h k = elim (decLt k n) [ yes l ↦ rw (coefficients
 module _ (f g : Coefficients) where
   pub products-none : (sums : List ℕ) → Plus sums sums (products 0 f g)
   unfolding products total
-  products-none sums = record { long = refl; each = λ k. sym (add-zero _) }
+  products-none sums = plus-nothing sums (products 0 f g) (λ k. refl)
 
   module _ (n : ℕ) (before sums : List ℕ) (h : Plus sums before (products n f g)) where
     pub products-more : (x : ℕ) → x ≡ f n → (after : List ℕ) → Plus after sums (λ k. x * shifted n g k) → Plus after before (products (n + 1) f g)
@@ -163,10 +191,10 @@ module _ (f g : Coefficients) where
     }
 
     pub products-skip : f n ≡ 0 → Plus sums before (products (n + 1) f g)
-    products-skip e = products-more 0 (sym e) sums (record { long = refl; each = λ k. sym (ap (λ (x : ℕ). at sums k + x) (zero-mul _) ∙ add-zero _) })
+    products-skip e = products-more 0 (sym e) sums (plus-nothing sums _ (λ k. zero-mul _))
 
     -- there is room for the next product
-    pub products-low : ((i : ℕ) → f i ≤ 255) → ((i : ℕ) → g i ≤ 255) → (m : ℕ) → n ≤ m → ((k : ℕ) → at before k + m * product-limit ≤ room) → (k : ℕ) → at sums k ≤ room
+    pub products-low : ((i : ℕ) → f i ≤ 255) → ((i : ℕ) → g i ≤ 255) → (m : ℕ) → n < m → ((k : ℕ) → at before k + m * product-limit ≤ room) → (k : ℕ) → at sums k + product-limit ≤ room
     products-low x y m l low k = let a = h .each k in let b = products-small n f g x y k in let c = low k in omega arith
 
     pub products-all : (m : ℕ) → n ≤ m → m ≤ n → Short m f → Plus sums before (convolution f g)

@@ -1,4 +1,5 @@
-// Products of polynomial matrices on the lent bytes: each entry's coefficients are summed without reduction, zero coefficients are skipped.
+// Products of polynomial matrices on the lent bytes, a row at a time: coefficients are summed without reduction, and those of the left
+// factor that are zero are skipped.
 ghost use mathlib.Core.Path.{_≡_};
 ghost use Prim.Native.Nat.{suc, _+_, _*_, _%_, _≤_, _<_};
 ghost use lib.Dec.{eqb};
@@ -7,7 +8,8 @@ ghost use Rattle.forms.specs.Polynomials.{convolution};
 ghost use Rattle.forms.specs.Matrices.{polynomial-matrix, polynomial-product, polynomial-unit};
 ghost use Rattle.forms.specs.Rules.{polynomial-equal};
 ghost use Rattle.products.specs.Indices.{Inside};
-ghost use Rattle.products.specs.Products.{Factors, Inverses, Holding, same-modulo, unit-test};
+ghost use Rattle.products.specs.Lines.{ScalingLine, MultiplyingLine, PlusLine, HoldingLine};
+ghost use Rattle.products.specs.Products.{Inverses, same-modulo};
 ghost use Rattle.products.specs.Searches.{failing};
 ghost use Rattle.products.specs.Sums.{coefficients, shifted, Scaling, Multiplying, Plus};
 use forms::ORDER;
@@ -16,15 +18,14 @@ use matrices::wide;
 // No product of the rules has more coefficients.
 pub const TERMS: usize = 2 * ORDER + 1;
 
+// The coefficients of an entry.
+pub type Sums = [u32; TERMS];
+
+// The entries of a row.
+pub type Line = [Sums; ORDER];
+
 // Adds x X^shift g to the sums, where g has the n coefficients of `right` from `start` on.
-pub fn add_scaled(
-    sums: &mut [u32; TERMS],
-    x: u32,
-    shift: usize,
-    right: &[u8],
-    start: usize,
-    n: usize,
-)
+fn add_scaled(sums: &mut Sums, x: u32, shift: usize, right: &[u8], start: usize, n: usize)
     requires { ⌜ Scaling x shift start n (now right) (now sums) ⌝ }
     ensures { λ r. ⌜ Plus (now (sums .exit)) (now (sums .entry)) (λ k. x * shifted shift (coefficients n start (now (right .entry))) k) ⌝ }
 {
@@ -38,7 +39,7 @@ pub fn add_scaled(
 
 // Adds f g to the sums, where f has the m coefficients of `left` from a on and g the n of `right` from b on.
 pub fn add_product(
-    sums: &mut [u32; TERMS],
+    sums: &mut Sums,
     left: &[u8],
     a: usize,
     m: usize,
@@ -67,26 +68,45 @@ pub fn entry_start(i: usize, j: usize, n: usize) -> usize
     (i * n + j) * n
 }
 
-// The entry (i, j) of a product of matrices of n by n entries of n coefficients.
-fn product_entry(left: &[u8], right: &[u8], i: usize, j: usize, n: usize) -> [u32; TERMS]
-    requires { ⌜ Factors n i j (now left) (now right) ⌝ }
-    ensures { λ r. ⌜ Holding r (polynomial-product n (polynomial-matrix n (now (left .entry))) (polynomial-matrix n (now (right .entry))) i j) ⌝ }
+// Adds x X^shift times row l of `right` to the row.
+fn add_scaled_line(line: &mut Line, x: u32, shift: usize, right: &[u8], l: usize, n: usize)
+    requires { ⌜ ScalingLine x shift l n (now right) (now line) ⌝ }
+    ensures { λ r. ⌜ PlusLine n (now (line .exit)) (now (line .entry)) (λ j k. x * shifted shift (polynomial-matrix n (now (right .entry)) l j) k) ⌝ }
 {
-    let mut sums = [0u32; TERMS];
+    let mut j = 0;
+    while j < n {
+        add_scaled(&mut line[j], x, shift, right, entry_start(l, j, n), n);
+        j = j + 1;
+    }
+}
+
+// Adds f times row l of `right` to the row, where f has the n coefficients of `left` from `start` on.
+fn add_product_line(line: &mut Line, left: &[u8], start: usize, right: &[u8], l: usize, n: usize)
+    requires { ⌜ MultiplyingLine start l n (now left) (now right) (now line) ⌝ }
+    ensures { λ r. ⌜ PlusLine n (now (line .exit)) (now (line .entry)) (λ j. convolution (coefficients n start (now (left .entry))) (polynomial-matrix n (now (right .entry)) l j)) ⌝ }
+{
+    let mut k = 0;
+    while k < n {
+        let x = wide(left[start + k]);
+        if x != 0 {
+            add_scaled_line(line, x, k, right, l, n);
+        }
+        k = k + 1;
+    }
+}
+
+// Row i of a product of matrices of n by n entries of n coefficients.
+fn product_line(left: &[u8], right: &[u8], i: usize, n: usize) -> Line
+    requires { ⌜ Inverses n (now left) (now right) × (i < n) ⌝ }
+    ensures { λ r. ⌜ HoldingLine n r (polynomial-product n (polynomial-matrix n (now (left .entry))) (polynomial-matrix n (now (right .entry))) i) ⌝ }
+{
+    let mut line = [[0u32; TERMS]; ORDER];
     let mut l = 0;
     while l < n {
-        add_product(
-            &mut sums,
-            left,
-            entry_start(i, l, n),
-            n,
-            right,
-            entry_start(l, j, n),
-            n,
-        );
+        add_product_line(&mut line, left, entry_start(i, l, n), right, l, n);
         l = l + 1;
     }
-    sums
+    line
 }
 
 // x and y are equal modulo p. Most are equal as they stand.
@@ -101,9 +121,9 @@ fn is_congruent(x: u32, y: u32, p: u32) -> bool
 }
 
 // The first 2n + 1 coefficients are equal modulo p.
-pub fn is_equal(f: [u32; TERMS], g: [u32; TERMS], n: usize, p: u32) -> bool
+pub fn is_equal(f: &Sums, g: &Sums, n: usize, p: u32) -> bool
     requires { ⌜ (n ≤ order-limit) × (0 < p) ⌝ }
-    ensures { λ r. ⌜ r ≡ same-modulo p (suc (2 * n)) (at f) (at g) ⌝ }
+    ensures { λ r. ⌜ r ≡ same-modulo p (suc (2 * n)) (at (now (f .entry))) (at (now (g .entry))) ⌝ }
 {
     let mut k = 0;
     while k <= 2 * n {
@@ -115,24 +135,32 @@ pub fn is_equal(f: [u32; TERMS], g: [u32; TERMS], n: usize, p: u32) -> bool
     true
 }
 
-// The entry (i, j) of E.
-fn unit_entry(i: usize, j: usize) -> [u32; TERMS]
-    ensures { λ r. ⌜ Holding r (polynomial-unit i j) ⌝ }
+// Coefficient k of the entry (i, j) of E.
+fn unit_coefficient(i: usize, j: usize, k: usize) -> u32
+    ensures { λ r. ⌜ r ≡ polynomial-unit i j k ⌝ }
 {
-    let mut unit = [0u32; TERMS];
-    if i == j {
-        unit[0] = 1;
+    if k != 0 {
+        return 0;
     }
-    unit
+    if i == j {
+        return 1;
+    }
+    0
 }
 
-// The entry (i, j) of the product is that of E.
-fn is_unit_entry(left: &[u8], right: &[u8], i: usize, j: usize, n: usize, p: u32) -> bool
-    requires { ⌜ Factors n i j (now left) (now right) × (0 < p) ⌝ }
-    ensures { λ r. ⌜ r ≡ unit-test p n (now (left .entry)) (now (right .entry)) i j ⌝ }
+// The first 2n + 1 coefficients are those of the entry (i, j) of E modulo p.
+fn is_unit_entry(sums: &Sums, i: usize, j: usize, n: usize, p: u32) -> bool
+    requires { ⌜ (n ≤ order-limit) × (0 < p) ⌝ }
+    ensures { λ r. ⌜ r ≡ same-modulo p (suc (2 * n)) (at (now (sums .entry))) (polynomial-unit i j) ⌝ }
 {
-    let entry = product_entry(left, right, i, j, n);
-    is_equal(entry, unit_entry(i, j), n, p)
+    let mut d = 0;
+    while d <= 2 * n {
+        if !is_congruent(sums[d], unit_coefficient(i, j, d), p) {
+            return false;
+        }
+        d = d + 1;
+    }
+    true
 }
 
 // The given rule, 4 or 5: left times right is E. The first wrong entry ends the search with the rule; 0 says that there is none.
@@ -145,9 +173,10 @@ pub fn inverse_rule(left: &[u8], right: &[u8], n: usize, p: u32, rule: u8) -> u8
         if n <= i {
             break 'rows 0;
         }
+        let line = product_line(left, right, i, n);
         let mut j = 0;
         while j < n {
-            if !is_unit_entry(left, right, i, j, n, p) {
+            if !is_unit_entry(&line[j], i, j, n, p) {
                 break 'rows rule;
             }
             j = j + 1;

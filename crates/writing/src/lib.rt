@@ -2,7 +2,6 @@
 ghost use mathlib.Core.List.{[], _∷_};
 ghost use Prim.Native.Nat.{_+_, _≤_, _<_};
 ghost use lib.ListN.{length};
-ghost use Rattle.forms.specs.Certificate.{mark};
 ghost use Rattle.writing.specs.Put.{Puts};
 ghost use Rattle.writing.specs.Written.{head-bytes};
 use certificate::records::MARKS;

@@ -1,6 +1,6 @@
 -- The sum is at most 255 * 255 for each turn, so that it fits.
-use Prim.Native.Nat.{_≤_, _*_, _-_}
-use mathlib.Core.Path.{_≡_}
+use Prim.Native.Nat.{ℕ, _≤_, _+_, _*_, _-_}
+use mathlib.Core.Path.{_≡_, ap₂}
 use native.Mathlib.Nat.{mul-le-mul, mod-lt, le-antisymm}
 use native.Mathlib.Omega.{arith}
 use lib.ListN.{getD}
@@ -12,10 +12,10 @@ use Rattle.matrices.proofs.inner_product.Statement.{statement}
 use Rattle.matrices.proofs.inner_product.Tie as tie
 
 abbrev Inv-loop : tie.InvT-loop
-Inv-loop j n p v b sum₀ k₀ sum k = (k ≤ n) × (sum ≤ 65025 * k) × (sum ≡ total k (λ k. getD v k 0 * cell b k j))
+Inv-loop b j n p v sum₀ k₀ sum k = (k ≤ n) × (sum ≤ 65025 * k) × (sum ≡ total k (λ k. getD v k 0 * cell b k j))
 
 abbrev μ-loop : tie.MeasureT-loop
-μ-loop j n p v b sum₀ k₀ sum k = n - k
+μ-loop b j n p v sum₀ k₀ sum k = n - k
 
 loop-holds : tie.Need-loop-holds Inv-loop μ-loop
 unfolding total
@@ -55,7 +55,7 @@ loop-less : tie.Need-loop-less Inv-loop μ-loop
 loop-less c = search needs
 
 loop-again : tie.Need-loop-again Inv-loop μ-loop
-loop-again c = (search needs, omega (arith, term c), rw (total-turn, ← c .before .before .before .before .loop .inv .2, c .before .before .wide .ensures .0, c .wide2 .ensures .0))
+loop-again c = let l = c .before .before .before .before .loop in (search needs, omega (arith, term c), rw (total-turn, ← l .inv .2) (ap₂ (λ (x y : ℕ). l .sum + x * y) (c .before .before .wide .ensures .0) (c .wide2 .ensures .0)))
 
 rem-result : tie.Need-rem-result Inv-loop μ-loop
 rem-result c = search needs

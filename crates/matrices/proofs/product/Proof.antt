@@ -11,13 +11,13 @@ use Rattle.matrices.proofs.product.Statement.{statement}
 use Rattle.matrices.proofs.product.Tie as tie
 
 abbrev Inv-loop : tie.InvT-loop
-Inv-loop b n p a r₀ i₀ r i = (i ≤ n) × (r ≡ filled i (λ i. product-row p n (getD a i []) b) zero-rows)
+Inv-loop n p a b r₀ i₀ r i = (i ≤ n) × (r ≡ filled i (λ i. product-row p n (getD a i []) b) zero-rows)
 
 abbrev μ-loop : tie.MeasureT-loop
-μ-loop b n p a r₀ i₀ r i = n - i
+μ-loop n p a b r₀ i₀ r i = n - i
 
 loop-holds : tie.Need-loop-holds Inv-loop μ-loop
-loop-holds c = (search needs, fill-start _ _)
+loop-holds c = (search needs, fill-start zero-rows _)
 
 mul-product-row : tie.Need-mul-product-row Inv-loop μ-loop
 mul-product-row c = search needs
@@ -41,7 +41,7 @@ loop-less : tie.Need-loop-less Inv-loop μ-loop
 loop-less c = search needs
 
 loop-again : tie.Need-loop-again Inv-loop μ-loop
-loop-again c = (search needs, fill-turn _ _ _ (search needs) (c .before .before .before .loop .inv .1) (c .product-row .ensures))
+loop-again c = (search needs, fill-turn _ _ _ (search needs) (c .before .before .before .before .loop .inv .1) (c .product-row .ensures))
 
 returns : tie.Need-returns Inv-loop μ-loop
 returns c = product-multiplies _ _ _ _ _ (search needs) (fill-end _ _ (c .before .loop .inv .1) (c .before .loop .inv .0) (c .loop-test .left))

@@ -3,7 +3,7 @@ use borrow.Author.Needs.{needs}
 use native.Mathlib.Omega.{arith}
 use mathlib.Core.Path.{_≡_, refl, sym}
 use mathlib.Core.List.{List}
-use Prim.Native.Nat.{ℕ, _+_, _*_, _-_, _≤_}
+use Prim.Native.Nat.{ℕ, _*_, _-_, _≤_}
 use native.Mathlib.Nat.{mul-le-mul}
 use lib.ListN.{length, take, replicate}
 use lib.Seq.{length-take-le}

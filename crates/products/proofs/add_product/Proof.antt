@@ -36,7 +36,7 @@ add-scaled-requires c κs =
       inside = search needs;
       there = search needs;
       long = l .inv .1 .long ∙ e .pre .long;
-      low = products-low _ _ (l .k) (a .sums .now) (l .sums) (l .inv .1) left right (a .m) (l .inv .0) (e .pre .low);
+      low = λ k. omega (arith, products-low _ _ (l .k) (a .sums .now) (l .sums) (l .inv .1) left right (a .m) (c .before .before .before .before .loop-test .taken) (e .pre .low) k);
     }
 
 add-k : tie.Need-add-k Inv-loop μ-loop

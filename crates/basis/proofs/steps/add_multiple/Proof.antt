@@ -4,6 +4,7 @@ use native.Mathlib.Omega.{arith}
 use Prim.Native.Nat.{_≤_, _-_, _+_, _*_, _%_}
 use mathlib.Core.Path.{_≡_, _∙_}
 use lib.ListN.{getD}
+use Rattle.forms.specs.Numbers.{order-limit}
 use Rattle.matrices.specs.Filling.{filled, fill-start, fill-turn, fill-end}
 use Rattle.matrices.specs.Matrices.{zero-row}
 use native.Mathlib.Nat.{mul-le-mul}
@@ -11,10 +12,10 @@ use Rattle.basis.proofs.steps.add_multiple.Statement.{statement}
 use Rattle.basis.proofs.steps.add_multiple.Tie as tie
 
 abbrev Inv-loop : tie.InvT-loop
-Inv-loop k n p factor x y b r₀ j₀ r j = (j ≤ n) × (r ≡ filled j (λ j. (getD x j 0 + k * getD y j 0) % p) zero-row)
+Inv-loop k p factor x y b r₀ j₀ r j = (j ≤ order-limit) × (r ≡ filled j (λ j. (getD x j 0 + k * getD y j 0) % p) zero-row)
 
 abbrev μ-loop : tie.MeasureT-loop
-μ-loop k n p factor x y b r₀ j₀ r j = n - j
+μ-loop k p factor x y b r₀ j₀ r j = order-limit - j
 
 -- the product of two bytes
 term : (c : tie.After-wide3 Inv-loop μ-loop) → c .before .before .before .before .wide .result * c .wide3 .result ≤ 65025
@@ -45,7 +46,7 @@ add-remainder : tie.Need-add-remainder Inv-loop μ-loop
 add-remainder c = omega (arith, term c, c .before .wide2 .ensures .1)
 
 remainder-requires : tie.Need-remainder-requires Inv-loop μ-loop
-remainder-requires c κs = (c .before .before .before .before .before .pre .1, omega (arith, term c, c .before .wide2 .ensures .1), c .before .before .before .before .before .pre .2)
+remainder-requires c κs = (c .before .before .before .before .before .pre .0, omega (arith, term c, c .before .wide2 .ensures .1), c .before .before .before .before .before .pre .1)
 
 array-write-r : tie.Need-array-write-r Inv-loop μ-loop
 array-write-r c = search needs

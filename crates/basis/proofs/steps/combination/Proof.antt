@@ -2,6 +2,7 @@
 use borrow.Author.Needs.{needs}
 use Prim.Native.Nat.{_≤_, _-_}
 use native.Mathlib.Nat.{le-antisymm}
+use Rattle.basis.specs.State.{field-row-whole}
 use Rattle.basis.specs.Steps.{Combining, combining-start, combining-turn, combining-end}
 use Rattle.basis.proofs.steps.combination.Statement.{statement}
 use Rattle.basis.proofs.steps.combination.Tie as tie
@@ -28,7 +29,7 @@ array-copy-out-plus-multiple-row : tie.Need-array-copy-out-plus-multiple-row Inv
 array-copy-out-plus-multiple-row c = search needs
 
 plus-multiple-row-requires : tie.Need-plus-multiple-row-requires Inv-loop μ-loop
-plus-multiple-row-requires c κs = (search needs, search needs, c .before .before .before .factor .ensures, c .before .before .loop .inv .1 .field)
+plus-multiple-row-requires c κs = (search needs, c .before .before .before .factor .ensures, field-row-whole _ _ (c .before .before .loop .r) (search needs) (search needs) (c .before .before .loop .inv .1 .field))
 
 add-i : tie.Need-add-i Inv-loop μ-loop
 add-i c = search needs
@@ -37,7 +38,7 @@ loop-less : tie.Need-loop-less Inv-loop μ-loop
 loop-less c = search needs
 
 loop-again : tie.Need-loop-again Inv-loop μ-loop
-loop-again c = (search needs, rw (c .plus-multiple-row .ensures) (combining-turn _ _ _ _ (c .before .before .before .before .before .args .t2) _ (search needs) (search needs) (c .before .before .before .loop .inv .1)))
+loop-again c = (search needs, rw (c .plus-multiple-row .ensures) (combining-turn _ _ _ _ (c .before .before .before .before .before .args .t2) _ (search needs) (search needs) (c .before .before .before .before .before .pre .2) (search needs) (c .before .before .before .loop .inv .1)))
 
 returns : tie.Need-returns Inv-loop μ-loop
 returns c = combining-end _ _ _ (c .before .before .before .args .t2) _ (rw (le-antisymm (c .before .loop .inv .0) (c .loop-test .left)) at (c .before .loop .inv .1))

@@ -6,7 +6,7 @@ use Rattle.basis.proofs.steps.plus_multiple_row.Statement.{statement}
 use Rattle.basis.proofs.steps.plus_multiple_row.Tie as tie
 
 returns : tie.Need-returns
-returns c = let e : c .before .args .k ≡ 0 = search needs in rw e (plus-row-nothing _ _ (c .before .args .x) (c .before .args .y) (search needs) (search needs) (c .before .pre .3))
+returns c = let e : c .before .args .k ≡ 0 = search needs in rw e (plus-row-nothing _ (c .before .args .x) (c .before .args .y) (search needs) (c .before .pre .2))
 
 add-multiple-requires : tie.Need-add-multiple-requires
 add-multiple-requires c κs = search needs

@@ -47,7 +47,7 @@ index-2-add-multiple : tie.Need-index-2-add-multiple Inv-loop μ-loop
 index-2-add-multiple c = search needs
 
 add-multiple-requires : tie.Need-add-multiple-requires Inv-loop μ-loop
-add-multiple-requires c κs = (search needs, search needs, c .before .before .before .before .before .before .factor .ensures)
+add-multiple-requires c κs = (search needs, c .before .before .before .before .before .before .factor .ensures)
 
 apply-requires : tie.Need-apply-requires Inv-loop μ-loop
 apply-requires c κs = (search needs, search needs, c .before .before .before .before .before .before .before .factor .ensures, c .before .before .before .before .before .before .before .before .pre .5)

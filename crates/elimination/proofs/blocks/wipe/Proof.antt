@@ -1,88 +1,104 @@
--- Nothing is to be done, or multiples of e_a are taken from the vectors behind the block.
+-- Multiples of column a are added in B and T, and the combinations are taken from row a of B and of the inverse.
 use borrow.Author.Needs.{needs}
 use native.Mathlib.Omega.{arith}
+use mathlib.Core.Path.{_≡_, sym, subst}
 use mathlib.Core.List.{[]}
-use lib.ListN.{getD}
+use lib.ListN.{getD, length}
+use Rattle.matrices.specs.Matrices.{FieldMatrix}
+use Rattle.basis.specs.Overwriting.{rows-pair, other-matrix}
 use Rattle.basis.specs.State.{prime-positive, field-row}
-use Rattle.elimination.specs.Blocking.{wiped-already, wiped-now}
+use Rattle.basis.specs.Changes.{rows-taken}
+use Rattle.basis.proofs.Shapes.{squares}
+use Rattle.elimination.specs.Blocking.{wiping-field, wiped-now}
 use Rattle.elimination.proofs.blocks.wipe.Statement.{statement}
 use Rattle.elimination.proofs.blocks.wipe.Tie as tie
 
-add-x : tie.Need-add-x
-add-x c = omega (arith, c .pre .0 .fits, c .pre .0 .order, c .pre .1 .fits)
+add-tail : tie.Need-add-tail
+add-tail c = search needs
 
-mul-x : tie.Need-mul-x
-mul-x c = omega (arith, c .pre .0 .fits, c .pre .0 .order, c .pre .1 .fits)
+mul-tail : tie.Need-mul-tail
+mul-tail c = search needs
 
-index-1-x : tie.Need-index-1-x
-index-1-x c = search needs
+index-1-tail : tie.Need-index-1-tail
+index-1-tail c = search needs
 
-index-2-x : tie.Need-index-2-x
-index-2-x c = omega (arith, c .pre .0 .fits, c .pre .0 .order, c .pre .1 .fits)
-
-first-nonzero-requires : tie.Need-first-nonzero-requires
-first-nonzero-requires c κs = (c .before .pre .1 .fits, omega (arith, c .before .pre .0 .fits, c .before .pre .0 .order))
-
-returns : tie.Need-returns
-returns c = (c .before .before .before .pre .0 .fields, wiped-already _ _ _ _ _ (c .before .before .before .args .t1) (c .before .before .before .pre .0) (c .before .before .before .pre .1) (c .before .before .before .pre .2) _ (c .before .first-nonzero .ensures) (c .if1 .taken))
+index-2-tail : tie.Need-index-2-tail
+index-2-tail c = search needs
 
 tail-requires : tie.Need-tail-requires
-tail-requires c κs = (c .before .before .before .pre .0 .order, c .before .before .before .pre .0 .fits, field-row _ _ (getD (c .before .before .before .args .t1) 0 []) _ (omega (arith, c .before .before .before .pre .0 .fits, c .before .before .before .pre .1 .fits)) (c .before .before .before .pre .0 .fields .B))
+tail-requires c κs = (c .before .pre .0 .order, c .before .pre .0 .fits, field-row _ _ (getD (c .before .args .t1) 0 []) _ (omega (arith, c .before .pre .0 .fits, c .before .pre .1 .fits)) (c .before .pre .0 .fields .B))
 
-sub-with-entry : tie.Need-sub-with-entry
-sub-with-entry c = prime-positive _ (c .before .before .before .before .pre .0 .prime-p)
+add-columns-requires : tie.Need-add-columns-requires
+add-columns-requires c κs = (c .before .before .pre .0 .order, omega (arith, c .before .before .pre .0 .fits, c .before .before .pre .1 .fits), prime-positive _ (c .before .before .pre .0 .prime-p), c .before .before .pre .0 .fields, wiping-field _ _ _ _ _ (c .before .before .args .t1) (c .before .before .pre .0) (c .before .before .pre .1) (c .before .before .pre .2) _ (c .tail .ensures))
 
-with-entry-requires : tie.Need-with-entry-requires
-with-entry-requires c κs = omega (arith, c .before .before .before .before .pre .0 .fits, c .before .before .before .before .pre .0 .order, c .before .before .before .before .pre .1 .fits)
+factor-requires : tie.Need-factor-requires
+factor-requires c κs = prime-positive _ (c .before .before .before .pre .0 .prime-p)
 
-array-copy-out-plus-outer : tie.Need-array-copy-out-plus-outer
-array-copy-out-plus-outer c = search needs
+mul-add-multiple : tie.Need-mul-add-multiple
+mul-add-multiple c = search needs
 
-index-1-column : tie.Need-index-1-column
-index-1-column c = search needs
+index-1-add-multiple : tie.Need-index-1-add-multiple
+index-1-add-multiple c = search needs
 
-column-requires : tie.Need-column-requires
-column-requires c κs = (c .before .before .before .before .before .before .before .pre .0 .order, omega (arith, c .before .before .before .before .before .before .before .pre .0 .fits, c .before .before .before .before .before .before .before .pre .0 .order, c .before .before .before .before .before .before .before .pre .1 .fits))
+index-2-add-multiple : tie.Need-index-2-add-multiple
+index-2-add-multiple c = search needs
 
-plus-outer-requires : tie.Need-plus-outer-requires
-plus-outer-requires c κs = (c .before .before .before .before .before .before .before .before .pre .0 .order, prime-positive _ (c .before .before .before .before .before .before .before .before .pre .0 .prime-p), c .before .before .before .before .before .before .before .before .pre .0 .fields .B)
-
-combination-requires : tie.Need-combination-requires
-combination-requires c κs = (c .before .before .before .before .before .before .before .before .before .pre .0 .order, prime-positive _ (c .before .before .before .before .before .before .before .before .before .pre .0 .prime-p))
-
-plus-outer-requires-2 : tie.Need-plus-outer-requires-2
-plus-outer-requires-2 c κs = (c .before .before .before .before .before .before .before .before .before .before .pre .0 .order, prime-positive _ (c .before .before .before .before .before .before .before .before .before .before .pre .0 .prime-p), c .before .plus-outer .ensures .field)
-
-array-copy-out-plus-outer-2 : tie.Need-array-copy-out-plus-outer-2
-array-copy-out-plus-outer-2 c = search needs
-
-index-1-column-2 : tie.Need-index-1-column-2
-index-1-column-2 c = search needs
-
-column-requires-2 : tie.Need-column-requires-2
-column-requires-2 c κs = (c .before .before .before .before .before .before .before .before .before .before .before .before .before .pre .0 .order, omega (arith, c .before .before .before .before .before .before .before .before .before .before .before .before .before .pre .0 .fits, c .before .before .before .before .before .before .before .before .before .before .before .before .before .pre .0 .order, c .before .before .before .before .before .before .before .before .before .before .before .before .before .pre .1 .fits))
-
-plus-outer-requires-3 : tie.Need-plus-outer-requires-3
-plus-outer-requires-3 c κs = (c .before .before .before .before .before .before .before .before .before .before .before .before .before .before .pre .0 .order, prime-positive _ (c .before .before .before .before .before .before .before .before .before .before .before .before .before .before .pre .0 .prime-p), c .before .before .before .before .before .before .before .before .before .before .before .before .before .before .pre .0 .fields .T)
-
-array-copy-out-plus-outer-3 : tie.Need-array-copy-out-plus-outer-3
-array-copy-out-plus-outer-3 c = search needs
+sub-add-multiple : tie.Need-sub-add-multiple
+sub-add-multiple c = prime-positive _ (c .before .before .before .before .before .pre .0 .prime-p)
 
 array-copy-out-combination : tie.Need-array-copy-out-combination
 array-copy-out-combination c = search needs
 
+combination-requires : tie.Need-combination-requires
+combination-requires c κs = (c .before .before .before .before .before .before .pre .0 .order, prime-positive _ (c .before .before .before .before .before .before .pre .0 .prime-p), c .before .before .before .add-columns .ensures .0 .B)
+
+add-multiple-requires : tie.Need-add-multiple-requires
+add-multiple-requires c κs = (prime-positive _ (c .before .before .before .before .before .before .before .pre .0 .prime-p), c .before .before .before .factor .ensures)
+
+mul-c : tie.Need-mul-c
+mul-c c = search needs
+
+index-1-c : tie.Need-index-1-c
+index-1-c c = search needs
+
+index-2-c : tie.Need-index-2-c
+index-2-c c = search needs
+
+mul-add-multiple-2 : tie.Need-mul-add-multiple-2
+mul-add-multiple-2 c = search needs
+
+index-1-add-multiple-2 : tie.Need-index-1-add-multiple-2
+index-1-add-multiple-2 c = search needs
+
+index-2-add-multiple-2 : tie.Need-index-2-add-multiple-2
+index-2-add-multiple-2 c = search needs
+
+sub-add-multiple-2 : tie.Need-sub-add-multiple-2
+sub-add-multiple-2 c = prime-positive _ (c .before .before .before .before .before .before .before .before .before .pre .0 .prime-p)
+
+array-copy-out-combination-2 : tie.Need-array-copy-out-combination-2
+array-copy-out-combination-2 c = search needs
+
 combination-requires-2 : tie.Need-combination-requires-2
-combination-requires-2 c κs = (c .before .before .before .before .before .before .before .before .before .before .before .before .before .before .before .before .before .pre .0 .order, prime-positive _ (c .before .before .before .before .before .before .before .before .before .before .before .before .before .before .before .before .before .pre .0 .prime-p))
+combination-requires-2 c κs = (c .before .before .before .before .before .before .before .before .before .before .pre .0 .order, prime-positive _ (c .before .before .before .before .before .before .before .before .before .before .pre .0 .prime-p), subst (FieldMatrix (c .before .before .before .before .before .before .before .before .before .before .args .p) (c .before .before .before .before .before .before .before .before .before .before .args .n)) (sym (other-matrix rows-pair (c .before .before .before .before .before .before .before .add-columns .result) _ _)) (c .before .before .before .before .before .before .before .add-columns .ensures .0 .I))
 
-plus-outer-requires-4 : tie.Need-plus-outer-requires-4
-plus-outer-requires-4 c κs = (c .before .before .before .before .before .before .before .before .before .before .before .before .before .before .before .before .before .before .pre .0 .order, prime-positive _ (c .before .before .before .before .before .before .before .before .before .before .before .before .before .before .before .before .before .before .pre .0 .prime-p), c .before .before .before .before .before .before .before .before .before .before .before .before .before .before .before .before .before .before .pre .0 .fields .I)
+add-multiple-requires-2 : tie.Need-add-multiple-requires-2
+add-multiple-requires-2 c κs = (prime-positive _ (c .before .before .before .before .before .before .before .before .before .before .before .pre .0 .prime-p), c .before .before .before .before .before .before .before .factor .ensures)
 
-returns-2 : tie.Need-returns-2
-returns-2 c = (
-  record { B = c .before .before .before .before .before .before .before .before .plus-outer2 .ensures .field; T = c .before .before .before .before .plus-outer3 .ensures .field; I = c .plus-outer4 .ensures .field },
-  wiped-now _ _ _ _ _ (c .before .before .before .before .before .before .before .before .before .before .before .before .before .before .before .before .before .before .before .args .t1) (c .before .before .before .before .before .before .before .before .before .before .before .before .before .before .before .before .before .before .before .pre .0) (c .before .before .before .before .before .before .before .before .before .before .before .before .before .before .before .before .before .before .before .pre .1) (c .before .before .before .before .before .before .before .before .before .before .before .before .before .before .before .before .before .before .before .pre .2) _ _ _ _ _ _ _ _ _ _ (c .before .before .before .before .before .before .before .before .before .before .before .before .before .before .before .tail .ensures) (c .before .before .before .before .before .before .before .before .before .before .before .before .before .before .with-entry .ensures) (c .before .before .before .before .before .before .before .before .before .before .before .column .ensures) (c .before .before .before .before .before .column2 .ensures)
-      (c .before .before .before .before .before .before .before .before .before .combination .ensures) (c .before .combination2 .ensures) (c .before .before .before .before .before .before .before .before .before .before .plus-outer .ensures) (c .before .before .before .before .before .before .before .before .plus-outer2 .ensures) (c .before .before .before .before .plus-outer3 .ensures) (c .plus-outer4 .ensures),
-)
+mul-t11 : tie.Need-mul-t11
+mul-t11 c = search needs
+
+index-1-c-2 : tie.Need-index-1-c-2
+index-1-c-2 c = search needs
+
+index-2-c-2 : tie.Need-index-2-c-2
+index-2-c-2 c = search needs
+
+returns : tie.Need-returns
+returns c =
+    let long : length (c .before .before .before .before .before .before .before .before .before .add-columns .result) ≡ 3 = search needs in
+    let r = rows-taken _ _ _ _ _ _ _ _ (c .before .before .before .before .before .before .before .before .before .add-columns .result) (prime-positive _ (c .before .before .before .before .before .before .before .before .before .before .before .before .pre .0 .prime-p)) (c .before .before .before .before .before .before .before .before .before .before .before .before .pre .0 .order) (omega (arith, c .before .before .before .before .before .before .before .before .before .before .before .before .pre .0 .fits, c .before .before .before .before .before .before .before .before .before .before .before .before .pre .1 .fits)) (squares (c .before .before .before .before .before .before .before .before .before .add-columns .result) _ long (c .before .before .before .before .before .before .before .before .before .add-columns .ok .1 .1)) (c .before .before .before .before .before .before .before .before .before .add-columns .ensures .0) (c .before .before .before .before .before .combination .ensures) (c .before .before .before .before .add-multiple .ensures) (c .before .combination2 .ensures) (c .add-multiple2 .ensures) in
+    (r .0, wiped-now _ _ _ _ _ (c .before .before .before .before .before .before .before .before .before .before .before .before .args .t1) (c .before .before .before .before .before .before .before .before .before .before .before .before .pre .0) (c .before .before .before .before .before .before .before .before .before .before .before .before .pre .1) (c .before .before .before .before .before .before .before .before .before .before .before .before .pre .2) _ (c .before .before .before .before .before .before .before .before .before .before .tail .ensures) (c .before .before .before .before .before .before .before .before .before .add-columns .ensures .1) (r .1))
 
 pub wipe-spec : {M : Type 1} → statement M
-wipe-spec = tie.close (tie.spec add-x mul-x index-1-x index-2-x first-nonzero-requires returns tail-requires sub-with-entry with-entry-requires array-copy-out-plus-outer index-1-column column-requires plus-outer-requires combination-requires plus-outer-requires-2 array-copy-out-plus-outer-2 index-1-column-2 column-requires-2 plus-outer-requires-3 array-copy-out-plus-outer-3 array-copy-out-combination combination-requires-2 plus-outer-requires-4 returns-2)
+wipe-spec = tie.close (tie.spec add-tail mul-tail index-1-tail index-2-tail tail-requires add-columns-requires factor-requires mul-add-multiple index-1-add-multiple index-2-add-multiple sub-add-multiple array-copy-out-combination combination-requires add-multiple-requires mul-c index-1-c index-2-c mul-add-multiple-2 index-1-add-multiple-2 index-2-add-multiple-2 sub-add-multiple-2 array-copy-out-combination-2 combination-requires-2 add-multiple-requires-2 mul-t11 index-1-c-2 index-2-c-2 returns)

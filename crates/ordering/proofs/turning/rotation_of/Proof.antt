@@ -2,6 +2,7 @@
 use borrow.Author.Needs.{needs}
 use Prim.Native.Nat.{_≤_, _-_}
 use mathlib.Core.Path.{_≡_}
+use Rattle.forms.specs.Numbers.{order-limit}
 use Rattle.matrices.specs.Filling.{filled, fill-start, fill-turn, fill-end}
 use Rattle.matrices.specs.Matrices.{zero-row}
 use Rattle.ordering.specs.Rotation.{rotation}
@@ -9,10 +10,10 @@ use Rattle.ordering.proofs.turning.rotation_of.Statement.{statement}
 use Rattle.ordering.proofs.turning.rotation_of.Tie as tie
 
 abbrev Inv-loop : tie.InvT-loop
-Inv-loop m k n r₀ j₀ r j = (j ≤ n) × (r ≡ filled j (rotation m k) zero-row)
+Inv-loop m k r₀ j₀ r j = (j ≤ order-limit) × (r ≡ filled j (rotation m k) zero-row)
 
 abbrev μ-loop : tie.MeasureT-loop
-μ-loop m k n r₀ j₀ r j = n - j
+μ-loop m k r₀ j₀ r j = order-limit - j
 
 loop-holds : tie.Need-loop-holds Inv-loop μ-loop
 loop-holds c = (search needs, fill-start _ _)

@@ -4,17 +4,18 @@ use native.Mathlib.Omega.{arith}
 use Prim.Native.Nat.{_≤_, _-_}
 use mathlib.Core.Path.{_≡_, refl}
 use lib.ListN.{getD}
+use Rattle.forms.specs.Numbers.{order-limit}
 use Rattle.matrices.specs.Filling.{filled, fill-start, fill-turn, fill-end}
 use Rattle.matrices.specs.Matrices.{zero-row}
-use Rattle.ordering.specs.Orders.{place}
+use Rattle.ordering.specs.Turning.{place}
 use Rattle.ordering.proofs.turning.turn_row.Statement.{statement}
 use Rattle.ordering.proofs.turning.turn_row.Tie as tie
 
 abbrev Inv-loop : tie.InvT-loop
-Inv-loop n x q r₀ j₀ r j = (j ≤ n) × (r ≡ filled j (λ j. getD x (place q j) 0) zero-row)
+Inv-loop x q r₀ j₀ r j = (j ≤ order-limit) × (r ≡ filled j (λ j. getD x (place q j) 0) zero-row)
 
 abbrev μ-loop : tie.MeasureT-loop
-μ-loop n x q r₀ j₀ r j = n - j
+μ-loop x q r₀ j₀ r j = order-limit - j
 
 loop-holds : tie.Need-loop-holds Inv-loop μ-loop
 loop-holds c = (search needs, fill-start _ _)
@@ -26,7 +27,7 @@ array-read-at : tie.Need-array-read-at Inv-loop μ-loop
 array-read-at c = search needs
 
 array-read-r : tie.Need-array-read-r Inv-loop μ-loop
-array-read-r c = omega (arith, c .before .before .pre .1 .inside (c .before .loop .j) (search needs))
+array-read-r c = omega (arith, c .before .before .pre .inside (c .before .loop .j) (search needs))
 
 array-write-r : tie.Need-array-write-r Inv-loop μ-loop
 array-write-r c = search needs
