@@ -3,7 +3,7 @@ use mathlib.Core.Path.{_≡_, sym, _∙_, ap, ap₂}
 use Prim.Native.Nat.{ℕ, zero, suc, _≤_, _<_}
 use native.Mathlib.Decide.{ℕ-discrete}
 use native.Mathlib.Omega.{arith}
-use Rattle.algebra.specs.Ring.{Ring, times-associative, times-left-commutative, times-one, times-plus, times-zero, times-minus}
+use Rattle.algebra.specs.Ring.{Ring, times-associative, times-left-commutative, times-one, times-plus, times-zero}
 use Rattle.algebra.specs.Sum.{sum}
 
 module _ {R : Type 0} (K : Ring R) where
@@ -24,9 +24,6 @@ module _ {R : Type 0} (K : Ring R) where
 
   pub divides-plus : (a b c : R) → Divides a b → Divides a c → Divides a (b ⊕ c)
   divides-plus a b c h k = record { by = h .by ⊕ k .by; is = ap₂ _⊕_ (h .is) (k .is) ∙ sym (times-plus K _ _ _) }
-
-  pub divides-minus : (a b : R) → Divides a b → Divides a (⊖ b)
-  divides-minus a b h = record { by = ⊖ (h .by); is = ap ⊖_ (h .is) ∙ sym (times-minus K _ _) }
 
   pub divides-times : (a b c : R) → Divides a b → Divides a (c ⊗ b)
   divides-times a b c h = record { by = c ⊗ h .by; is = ap (λ x. c ⊗ x) (h .is) ∙ times-left-commutative K _ _ _ }

@@ -7,7 +7,7 @@ use Prim.Native.Nat.{ℕ, zero, suc, _+_, _-_, _<_}
 use native.Mathlib.Decide.{decLt}
 use native.Mathlib.Omega.{arith}
 use Rattle.algebra.specs.Ring.{Ring, plus-cancel, zero-plus, plus-zero, one-times, times-one, times-associative, times-commutative, times-zero, zero-times, minus-zero, plus-minus}
-use Rattle.algebra.specs.Solver.{_:+_, _:*_, :-_, solve₃, solve₆}
+use Rattle.algebra.specs.Solver.{_:+_, _:*_, :-_, solve₆}
 use Rattle.algebra.specs.Domain.{Field, field-domain, equal-of-difference, unit-cancel-zero}
 use Rattle.algebra.specs.Divides.{Divides}
 use Rattle.algebra.specs.Series.{Series, series}
@@ -101,13 +101,6 @@ module _ {R : Type 0} (K : Ring R) where
     divide = polynomial-induction K (Division d m) division-proposition
         (record { quotient = 0ᵖ; remainder = 0ᵖ; below = λ i l. zero-coefficient K i; equation = sym (ap (λ x. x +ᵖ 0ᵖ) (zero-times (polynomials K) m) ∙ zero-plus (polynomials K) 0ᵖ) })
         divide-step
-
-    pub quotient-below : (f : Polynomial K) (D : Division d m f) (e : ℕ) → Below K e (f .0) → Below K (e - d) (D .quotient .0)
-    quotient-below f D e h = factor-below (e - d) (D .quotient)
-        (rw is (λ i l. difference-below (e - d + d) f (D .remainder) (λ j g. h j (omega arith)) (λ j g. D .below j (omega arith)) i l))
-      where
-        is : D .quotient *ᵖ m ≡ f +ᵖ -ᵖ (D .remainder)
-        is = solve₃ (polynomials K) (λ q m r. q :* m) (λ q m r. (q :* m :+ r) :+ :- r) refl (D .quotient) m (D .remainder) ∙ ap (λ x. x +ᵖ -ᵖ (D .remainder)) (sym (D .equation))
 
     pub divides-exactly : (f : Polynomial K) (D : Division d m f) → Divides (polynomials K) m f ↔ (D .remainder ≡ 0ᵖ)
     divides-exactly f D = (

@@ -74,7 +74,3 @@ module _ {R : Type 0} (K : Ring R) (n : ℕ) where
         moves = sym (product-associative K n A T M) ∙ ap (λ x. x · M) (s .moves) ∙ product-associative K n T B M
             ∙ ap (λ x. T · x) (sym (cancel-left M J (B · M) b (m .right))) ∙ sym (product-associative K n T M (J · (B · M)));
       }
-
-  -- B = T⁻¹ A T
-  pub basis-is : (A B T I : Matrix K) → Within K n A → Basis A B T I → B ≡ I · (A · T)
-  basis-is A B T I a s = sym (cancel-left I T B (s .within) (s .inverse .left)) ∙ ap (λ x. I · x) (sym (s .moves))

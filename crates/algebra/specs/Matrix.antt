@@ -58,9 +58,6 @@ module _ {R : Type 0} (K : Ring R) where
   restrict-equal n A B h = matrix-equal n _ _ (restrict-within n A) (restrict-within n B)
       (λ i j l g. restrict-inside n A i j l g ∙ h i j l g ∙ sym (restrict-inside n B i j l g))
 
-  pub restrict-of-within : (n : ℕ) (A : Matrix) → Within n A → restrict n A ≡ A
-  restrict-of-within n A a = matrix-equal n _ _ (restrict-within n A) a (restrict-inside n A)
-
   unfoldable pub identity : ℕ → Matrix
   identity n = restrict n (delta K)
 
@@ -186,10 +183,6 @@ module _ {R : Type 0} (K : Ring R) where
   pub apply-upto : (n : ℕ) (A : Matrix) (u : Vector) → Within n A → Upto n (apply n A u)
   unfolding apply
   apply-upto n A u a i l = sum-of-zeros K _ n (λ k h. ap (λ x. x ⊗ u k) (a .rows i k l) ∙ zero-times K _)
-
-  pub combine-upto : (n : ℕ) (v : Vector) (A : Matrix) → Within n A → Upto n (combine n v A)
-  unfolding combine
-  combine-upto n v A a j l = sum-of-zeros K _ n (λ k h. ap (λ x. v k ⊗ x) (a .columns k j l) ∙ times-zero K _)
 
   pub matrix-plus-within : (n : ℕ) (A B : Matrix) → Within n A → Within n B → Within n (matrix-plus A B)
   unfolding matrix-plus

@@ -144,14 +144,6 @@ module _ {R : Type 0} (K : Ring R) where
       at zero = refl
       at (suc i) = sym (zero-plus K 𝟘)
 
-  pub scalar-minus : (a : R) → scalar (⊖ a) ≡ -ᵖ (scalar a)
-  unfolding scalar constant cons
-  scalar-minus a = polynomial-equal (scalar (⊖ a)) (-ᵖ (scalar a)) (λ i. at i ∙ sym (minus-coefficient (scalar a) i))
-    where
-      at : (i : ℕ) → scalar (⊖ a) .0 i ≡ ⊖ (scalar a .0 i)
-      at zero = refl
-      at (suc i) = sym (minus-zero K)
-
   pub scalar-times : (a b : R) → scalar (a ⊗ b) ≡ scalar a *ᵖ scalar b
   unfolding scalar constant cons
   scalar-times a b = polynomial-equal (scalar (a ⊗ b)) (scalar a *ᵖ scalar b) (λ i. at i ∙ sym (scalar-times-coefficient a (scalar b) i))

@@ -2,7 +2,7 @@
 use mathlib.Core.Path.{_≡_, sym, _∙_, ap, fun-ext}
 use Prim.Native.Nat.{ℕ, _<_}
 use native.Mathlib.Decide.{ℕ-discrete}
-use Rattle.algebra.specs.Ring.{Ring, times-commutative, times-associative, one-times}
+use Rattle.algebra.specs.Ring.{Ring, times-commutative, times-associative}
 use Rattle.algebra.specs.Sum.{sum, sum-equal, delta, delta-same, delta-other, delta-symmetric, sum-of-delta}
 use Rattle.algebra.specs.Matrix.{Matrix, Within, restrict, restrict-inside, restrict-within, matrix-equal, identity, identity-inside, identity-within, product, product-at, product-within}
 use Rattle.algebra.specs.Inverse.{Inverse}
@@ -48,9 +48,6 @@ module _ {R : Type 0} (K : Ring R) where
   pub diagonal-inside : (n : ℕ) (d : ℕ → R) (i j : ℕ) → i < n → j < n → diagonal n d i j ≡ delta K i j ⊗ d i
   unfolding diagonal
   diagonal-inside n d i j l g = restrict-inside K n _ i j l g
-
-  pub diagonal-same : (n : ℕ) (d : ℕ → R) (i : ℕ) → i < n → diagonal n d i i ≡ d i
-  diagonal-same n d i l = diagonal-inside n d i i l l ∙ ap (λ x. x ⊗ d i) (delta-same K i) ∙ one-times K (d i)
 
   -- a sum against one place
   pub sum-at : (f : ℕ → R) (n j : ℕ) → j < n → sum K (λ k. f k ⊗ delta K k j) n ≡ f j

@@ -1,15 +1,13 @@
 -- P, Q and their inverses in closed form, from D, T and T's inverse: no product of polynomials is computed. Row i of the Frobenius form
 -- belongs to row or column `to i` of D; each form is given there by i, with its coefficients reduced modulo p.
-use mathlib.Core.Path.{_≡_, ap}
 use mathlib.Core.Bool.{cond}
-use Prim.Native.Nat.{ℕ, suc, _+_, _*_, _-_, _%_, _<_}
+use Prim.Native.Nat.{ℕ, suc, _+_, _*_, _-_, _%_}
 use lib.Dec.{eqb, leb}
 use Rattle.forms.specs.Numbers.{total}
 use Rattle.forms.specs.Polynomials.{Coefficients}
 use Rattle.forms.specs.Matrices.{Entries, PolynomialEntries}
 use Rattle.forms.specs.BlockIndices.{degrees, block, last, position, is-head}
-use Rattle.forms.specs.SmithDiagonals.{SmithDiagonal}
-use Rattle.forms.specs.BlockPermutation.{to, from, to-permutes}
+use Rattle.forms.specs.BlockPermutation.{from}
 
 abbrev pub opposite : ℕ → ℕ → ℕ
 opposite p x = (p - x) % p
@@ -51,27 +49,3 @@ closed-Q p n f T r c = Q-column p n f T r (from (degrees n f) n c)
 
 unfoldable pub closed-QI : ℕ → ℕ → (ℕ → Coefficients) → Entries → PolynomialEntries
 closed-QI p n f TI r c = QI-row p n f TI (from (degrees n f) n r) c
-
-module _ (p n : ℕ) (f : ℕ → Coefficients) (S : SmithDiagonal p n f) where
-  abbrev d : ℕ → ℕ
-  d = degrees n f
-
-  -- the forms, at the row or the column that row i of F belongs to
-  from-to : (i : ℕ) → i < n → from d n (to d n i) ≡ i
-  from-to = to-permutes d n (S .sums) (S .low) (S .rising) .back
-
-  pub closed-P-row : (TI : Entries) (i c : ℕ) → i < n → closed-P n f TI (to d n i) c ≡ P-row n f TI i c
-  unfolding closed-P
-  closed-P-row TI i c l = ap (λ (j : ℕ). P-row n f TI j c) (from-to i l)
-
-  pub closed-PI-column : (T : Entries) (r i : ℕ) → i < n → closed-PI p n f T r (to d n i) ≡ PI-column p n f T r i
-  unfolding closed-PI
-  closed-PI-column T r i l = ap (PI-column p n f T r) (from-to i l)
-
-  pub closed-Q-column : (T : Entries) (r i : ℕ) → i < n → closed-Q p n f T r (to d n i) ≡ Q-column p n f T r i
-  unfolding closed-Q
-  closed-Q-column T r i l = ap (Q-column p n f T r) (from-to i l)
-
-  pub closed-QI-row : (TI : Entries) (i c : ℕ) → i < n → closed-QI p n f TI (to d n i) c ≡ QI-row p n f TI i c
-  unfolding closed-QI
-  closed-QI-row TI i c l = ap (λ (j : ℕ). QI-row p n f TI j c) (from-to i l)

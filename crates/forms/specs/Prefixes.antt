@@ -137,13 +137,6 @@ module _ (s : List ℕ) (m : ℕ) (enough : certificate-length order-limit < m) 
     | no short ↦ ap (records-asked (suc k)) (take-all m s (omega arith))
   ]
 
-  -- where they are read, that is the whole input
-  pub whole-of-read-prefix : (k : ℕ) → k < 10 → records-asked (suc k) (take m s) ≡ fine → take m s ≡ s
-  whole-of-read-prefix k l e = elim (decLe m (length s)) [
-    | yes long ↦ absurd (first-refused s m enough long k l e)
-    | no short ↦ take-all m s (omega arith)
-  ]
-
   -- HD and MA
   pub matrix-of-prefix : records-asked 2 (take m s) ≡ records-asked 2 s
   matrix-of-prefix = records-asked-of-prefix 1 (lit< tt)

@@ -1,7 +1,7 @@
 -- The ten records put into the output one after the other: the layout, and behind it what stood there before.
 use mathlib.Core.Path.{_≡_, sym, _∙_, ap}
 use mathlib.Core.List.{List, [], _∷_, _++_, append-assoc}
-use Prim.Native.Nat.{ℕ, zero, suc, _+_, _*_, _≤_, _<_, _%_, _/_}
+use Prim.Native.Nat.{ℕ, suc, _+_, _*_, _≤_, _<_, _%_, _/_}
 use native.Mathlib.Nat.{zero-add}
 use native.Mathlib.Omega.{arith}
 use lib.ListN.{length, drop}
@@ -58,13 +58,3 @@ module _ (c : Certificate) (laid : LaidOut c) where
   pub certificate-put : {before after : List ℕ} → RecordsPut c 10 before after → after ≡ layout c ++ drop (certificate-length n) before
   unfolding put layout
   certificate-put {before} p = p .written ∙ ap (λ (z : ℕ). layout c ++ drop z before) (zero-add _ ∙ records-length 10 (omega arith))
-
-  -- outputs from one record to the next
-  pub records-put : (outs : ℕ → List ℕ) → certificate-length n ≤ length (outs 0)
-      → ((k : ℕ) → k < 10 → outs (suc k) ≡ put (outs k) (offset n k) (record-bytes (mark k) (payload c k)))
-      → outs 10 ≡ layout c ++ drop (certificate-length n) (outs 0)
-  records-put outs h step = certificate-put (go 10 (omega arith))
-    where
-      go : (k : ℕ) → k ≤ 10 → RecordsPut c k (outs 0) (outs k)
-      go zero l = no-record-put (outs 0)
-      go (suc k) l = next-record-put (omega arith) h (go k (omega arith)) (step k (omega arith))
