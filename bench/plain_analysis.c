@@ -1,4 +1,4 @@
-/* The analysis in plain C, as crates/basis, elimination, payloads and analysis do it. */
+/* The analysis in plain C, as crates/basis, ordering, splitting, elimination, payloads and analysis do it. */
 #include "plain.h"
 #include <string.h>
 

@@ -12,10 +12,10 @@ use Rattle.algebra.specs.Inverse.{basis-start}
 use Rattle.algebra.specs.Divides.{Divides}
 use Rattle.algebra.specs.Polynomial.{Polynomial, polynomials, Monic}
 use Rattle.basis.specs.Frame.{Frame, FrameWithin, In, column, Window}
-use Rattle.elimination.specs.Killing.{monic-of-low, monic-of-monic, corner, Kills, kills-span, kills-out-of-frame, corner-divides}
+use Rattle.splitting.specs.Killing.{monic-of-low, monic-of-monic, corner, Kills, kills-span, kills-out-of-frame, corner-divides}
 use Rattle.ordering.specs.Rotation.{rotation, rotation-low, rotation-middle, rotation-high, rotation-below, rotated-change}
 use Rattle.ordering.specs.Reordering.{Reordered}
-use Rattle.elimination.specs.Probe.{Split}
+use Rattle.splitting.specs.Probe.{Split}
 
 module _ {R : Type 0} (K : Ring R) where
   open Ring K using (minus as ⊖_, zero as 𝟘)

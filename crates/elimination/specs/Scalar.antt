@@ -15,8 +15,8 @@ use Rattle.algebra.specs.Modular.{residue, modulo}
 use Rattle.matrices.specs.Matrices.{cell, matrix, matrix-inside, zero-row, zero-row-at}
 use Rattle.basis.specs.Frame.{Frame}
 use Rattle.basis.specs.State.{Array, zero-entry}
-use Rattle.elimination.specs.Shapes.{CompanionColumns}
-use Rattle.elimination.specs.Killing.{monic-of-low, monic-of-monic, corner, Kills, kills-by-powers, kills-in-frame, kills-out-of-frame, corner-divides, unit-upto, power-none, power-one}
+use Rattle.splitting.specs.Shapes.{CompanionColumns}
+use Rattle.splitting.specs.Killing.{monic-of-low, monic-of-monic, corner, Kills, kills-by-powers, kills-in-frame, kills-out-of-frame, corner-divides, unit-upto, power-none, power-one}
 use Rattle.elimination.specs.Form.{Block, CompanionAt, Dividing, Form, Top, Stage}
 
 module _ {R : Type 0} (K : Ring R) where

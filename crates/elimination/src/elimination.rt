@@ -7,15 +7,15 @@ ghost use Rattle.forms.specs.Numbers.{prime, order-limit};
 ghost use Rattle.matrices.specs.Matrices.{FieldMatrix};
 ghost use Rattle.elimination.specs.Reduced.{Reduced};
 ghost use Rattle.elimination.specs.Scalar.{ScalarWindow};
-use crate::blocks::same_row;
-use crate::blocks::split;
-use crate::passes::reach;
 use basis::steps::State;
 use basis::steps::with_entry;
 use forms::ORDER;
 use matrices::Mat;
 use matrices::identity;
 use ordering::turning::rotate;
+use splitting::blocks::same_row;
+use splitting::blocks::split;
+use splitting::passes::reach;
 
 // The window [0,k) is a multiple of E.
 fn is_scalar(b: &Mat, k: usize) -> bool

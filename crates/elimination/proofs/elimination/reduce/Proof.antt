@@ -10,10 +10,10 @@ use Rattle.basis.specs.State.{frame, Fields}
 use Rattle.matrices.specs.Matrices.{matrix, matrix-within}
 use Rattle.forms.specs.Primes.{prime-means}
 use Rattle.elimination.specs.Form.{Stage, stage-start}
-use Rattle.elimination.specs.Probe.{Split}
-use Rattle.elimination.specs.Blocking.{split-reach, stage-next}
+use Rattle.splitting.specs.Probe.{Split}
+use Rattle.splitting.specs.Blocking.{split-reach}
 use Rattle.elimination.specs.Scalar.{all-blocks, scalar-window}
-use Rattle.elimination.specs.Reduced.{reduced}
+use Rattle.elimination.specs.Reduced.{reduced, stage-next}
 use Rattle.elimination.proofs.elimination.reduce.Statement.{statement}
 use Rattle.elimination.proofs.elimination.reduce.Tie as tie
 
