@@ -53,7 +53,7 @@ module _ {R : Type 0} (K : Ring R) (n : ℕ) (x : R) (B : CompanionBlocks K n x)
       different q = apart (suc (last i)) j (B.after_last i l (omega arith)) e q
 
   right_entry_first : (i j : ℕ) → i < n → j < n → first i ≡ true → (b : Bool) → first j ≡ b → back (last i) j ≡ delta K i j
-  right_entry_first i j l m e true f = inverse_last_first i j l m f ∙ ap (λ (k : ℕ). delta K k j) (B.Head_first i l e)
+  right_entry_first i j l m e true f = inverse_last_first i j l m f ∙ ap (λ (k : ℕ). delta K k j) (B.head_first i l e)
   right_entry_first i j l m e false f = inverse_last_next i j l m f ∙ sym (delta_other K i j (apart i j e f))
 
   right_entry_next : (i j : ℕ) → suc i < n → j < n → first (suc i) ≡ false → (b : Bool) → first j ≡ b

@@ -1,1 +1,2 @@
 // Mathematics only: see specs/.
+#![tactic(auto)]

@@ -1,4 +1,6 @@
 // The analysis: a matrix is refused, or reduced to its Frobenius form, off which D is read and from which the certificate is written.
+#![tactic(auto)]
+
 ghost use Rattle.std.specs.Prelude.{◌≡◌, ◌++◌, ◌≤◌, length, drop};
 ghost use Rattle.forms.specs.Certificate.{Certificate, layout, certificate_length};
 ghost use Rattle.forms.specs.Words.{LaidOut, Certified};

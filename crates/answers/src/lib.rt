@@ -1,4 +1,6 @@
 // The number and the place of each answer of the public operations, as document 01 counts them.
+#![tactic(auto)]
+
 ghost use Rattle.std.specs.Prelude.{◌≡◌};
 ghost use Rattle.forms.specs.Answers.{fault_number, fault_place, verdict_number, verdict_place, analysed_number, analysed_place, reciprocal_number, reciprocal_value};
 

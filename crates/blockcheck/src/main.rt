@@ -1,5 +1,7 @@
 // Reads a certificate from standard input and prints `accepted`, or `refused` with the number and the place. Bytes behind the buffer
 // would not change the answer (verdict_of_prefix).
+#![tactic(auto)]
+
 use answers::{verdict_number, verdict_place};
 use forms::Verdict;
 use libc::STDIN_FILENO;

@@ -1,5 +1,7 @@
 // Reads an HD and an MA record from standard input and prints D, F and the lead of the matrix, or `refused` with the number and the
 // place. Bytes behind the buffer would not change the answer (matrix_of_prefix).
+#![tactic(auto)]
+
 mod diagonal; // the degree of a polynomial, and the lead
 mod listing; // what is printed
 

@@ -1,4 +1,6 @@
 // Finding: the payload that a mark finds, as a part of the certificate.
+#![tactic(auto)]
+
 ghost use Rattle.std.specs.Prelude.{◌≡◌, [], ◌+◌, ◌≤◌, ◌<◌, length};
 ghost use Rattle.forms.specs.Certificate.{offset, part};
 ghost use Rattle.forms.specs.Operations.{Finds};

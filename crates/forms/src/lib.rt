@@ -1,5 +1,6 @@
 // The largest order, and the answers of the public operations as types. What each case of an answer means as a number and a place
 // stands in specs/Answers.antt.
+#![tactic(auto)]
 
 // A matrix has at most this many rows; the definitions' `order_limit` is the same number.
 pub const ORDER: usize = 12;

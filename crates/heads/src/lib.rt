@@ -1,4 +1,6 @@
 // The blocks of the Frobenius form: which rows begin one, where each ends, and the rows in the order of D.
+#![tactic(auto)]
+
 ghost use Rattle.std.specs.Prelude.{◌≡◌, cond, ◌+◌, ◌-◌, ◌≤◌, ◌<◌};
 ghost use Rattle.forms.specs.Numbers.{order_limit};
 ghost use Rattle.heads.specs.Heads.{begins, LastRow, LastRows, other, others, place, Ordered};

@@ -1,4 +1,6 @@
 // The inverse of a field matrix, by elimination with row operations, and the test that tells where there is none.
+#![tactic(auto)]
+
 ghost use Rattle.std.specs.Prelude.{◌≡◌, [], ◌+◌, ◌%◌, ◌≤◌, ◌<◌, T, get_or};
 ghost use Rattle.forms.specs.Numbers.{prime, order_limit};
 ghost use Rattle.matrices.specs.Rows.{plus_row};

@@ -1,4 +1,6 @@
 // Field matrices by value: twelve rows of twelve residues, with rows and columns from n on zero.
+#![tactic(auto)]
+
 ghost use Rattle.std.specs.Prelude.{◌≡◌, ◌*◌, ◌%◌, ◌≤◌, ◌<◌, get_or};
 ghost use Rattle.forms.specs.Numbers.{total, order_limit};
 ghost use Rattle.matrices.specs.Matrices.{cell};

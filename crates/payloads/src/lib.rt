@@ -1,4 +1,6 @@
 // The payloads, put into the output row by row, and the ten records.
+#![tactic(auto)]
+
 ghost use Rattle.std.specs.Prelude.{◌≡◌, [], ◌++◌, ◌+◌, ◌*◌, ◌≤◌, ◌<◌, length, get_or, drop};
 ghost use Rattle.forms.specs.Numbers.{order_limit};
 ghost use Rattle.forms.specs.Certificate.{payload, layout, size, certificate_length, joined};

@@ -1,4 +1,6 @@
 // Polynomials over F_p by value, constant term first: division with quotient and remainder, and the divisibility test.
+#![tactic(auto)]
+
 ghost use Rattle.std.specs.Prelude.{◌↔◌, ◌+◌, ◌≤◌, ◌<◌, T, length};
 ghost use Rattle.algebra.specs.Divides.{Divides};
 ghost use Rattle.algebra.specs.Polynomial.{polynomials};

@@ -1,5 +1,7 @@
 // Products of polynomial matrices on the lent bytes, a row at a time: coefficients are summed without reduction, and those of the left
 // factor that are zero are skipped.
+#![tactic(auto)]
+
 ghost use Rattle.std.specs.Prelude.{◌≡◌, suc, ◌+◌, ◌*◌, ◌%◌, ◌≤◌, ◌<◌, eqb};
 ghost use Rattle.forms.specs.Numbers.{at, order_limit};
 ghost use Rattle.forms.specs.Polynomials.{convolution};

@@ -1,4 +1,6 @@
 // What both programs write to standard output: words, numbers and LF-ended lines.
+#![tactic(auto)]
+
 use libc::STDOUT_FILENO;
 
 pub fn print_text(text: &[u8]) {

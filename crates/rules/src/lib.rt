@@ -1,4 +1,6 @@
 // The nine rules in code, on the lent bytes: each answers its number where it fails, else 0.
+#![tactic(auto)]
+
 pub mod diagonal; // rules 1 to 3
 pub mod field; // rules 8 and 9
 pub mod frobenius; // rule 7

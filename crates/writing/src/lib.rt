@@ -1,4 +1,6 @@
 // Writing: bytes and the head of a record are put into the output at an offset; each answers where it ends.
+#![tactic(auto)]
+
 ghost use Rattle.std.specs.Prelude.{[], ◌∷◌, ◌+◌, ◌≤◌, ◌<◌, length};
 ghost use Rattle.writing.specs.Put.{Puts};
 ghost use Rattle.writing.specs.Written.{head_bytes};
