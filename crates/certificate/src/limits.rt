@@ -9,7 +9,7 @@ use residues::residue::is_prime;
 const LARGEST_ORDER: u64 = ORDER as u64;
 
 // n is refused by 1, then p by 2.
-#[derive(Drop)]
+#[derive(Clone, Copy)]
 pub enum Limits {
     Kept,
     Refused { number: u8, place: u64 },

@@ -9,13 +9,13 @@ use crate::limits::{Limits, order_and_prime};
 use crate::records::{RECORDS, is_marked, payload_size};
 use forms::Fault;
 
-#[derive(Drop)]
+#[derive(Clone, Copy)]
 pub struct Cursor {
     pub at: usize,
 }
 
 // The cursor past what was read, or the refusal.
-#[derive(Drop)]
+#[derive(Clone, Copy)]
 pub enum Read {
     Good(Cursor),
     Bad(Fault),

@@ -6,28 +6,28 @@
 pub const ORDER: usize = 12;
 
 // A form fault carries an offset (n or p in its stead for 1 and 2), a rule fault the rule.
-#[derive(Drop)]
+#[derive(Clone, Copy)]
 pub enum Fault {
     Form { number: u8, offset: u64 },
     Rule(u8),
 }
 
 // The check: accepted with the length read, or refused.
-#[derive(Drop)]
+#[derive(Clone, Copy)]
 pub enum Verdict {
     Accepted(u64),
     Refused(Fault),
 }
 
 // The analysis: done with the length written, or refused.
-#[derive(Drop)]
+#[derive(Clone, Copy)]
 pub enum Analysed {
     Written(u64),
     Refused { number: u8, place: u64 },
 }
 
 // The reciprocal: the residue alone, or refused.
-#[derive(Drop)]
+#[derive(Clone, Copy)]
 pub enum Reciprocal {
     Residue(u8),
     Refused { number: u8, place: u64 },

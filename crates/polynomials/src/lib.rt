@@ -18,13 +18,13 @@ use residues::residue::{plus_multiple, reciprocal_of};
 pub const COEFFICIENTS: usize = ORDER + 1;
 
 // `len` coefficients, the last of them not zero, and zeros behind them. The zero polynomial has none.
-#[derive(Drop)]
+#[derive(Clone, Copy)]
 pub struct Polynomial {
     pub coefficients: [u8; COEFFICIENTS],
     pub len: usize,
 }
 
-#[derive(Drop)]
+#[derive(Clone, Copy)]
 pub struct Division {
     pub quotient: Polynomial,
     pub remainder: Polynomial,
