@@ -1,0 +1,17 @@
+-- The loop adds up the rows of m, each as often as v says.
+use Rattle.std.proofs.Common.{rules, ◌-◌, le_antisymm}
+use Rattle.basis.specs.State.{field_row_whole}
+use Rattle.basis.specs.Steps.{combining_start, combining_turn, combining_end}
+use Rattle.basis.proofs.steps.combination.Goals as goal
+
+pub loop-i-init : goal.loop-i-init
+loop-i-init c = (search rules, combining_start _ _ _ c.args.m (search rules))
+
+pub plus_multiple_row-x-requires : goal.plus_multiple_row-x-requires
+plus_multiple_row-x-requires c = (search rules, c.factor-f.ensures, field_row_whole _ _ c.loop-i.r (search rules) (search rules) c.loop-i.invariant.1.field)
+
+pub loop-i-preserved : goal.loop-i-preserved
+loop-i-preserved c = (search rules, rw c.plus_multiple_row-x.ensures (combining_turn _ _ _ _ c.args.m _ (search rules) (search rules) c.requires.2 (search rules) c.loop-i.invariant.1))
+
+pub returns : goal.returns
+returns c = combining_end _ _ _ c.args.m _ (rw (le_antisymm c.loop-i.invariant.0 c.loop-i-test.false) at c.loop-i.invariant.1)
