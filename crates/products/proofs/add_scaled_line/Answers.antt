@@ -14,7 +14,7 @@ add_scaled-requires c =
     record {
       byte = h.byte;
       inside = omega (arith, h.inside, h.order);
-      there = omega (arith, c.entry_start.ensures.1, h.right-long);
+      there = omega (arith, c.entry_start.ensures.1, h.right_long);
       long = ahead.0;
       low = λ k. omega (arith, ahead.1 k);
     }

@@ -15,9 +15,9 @@ add_product_line-requires c =
       order = h.order;
       row = c.loop-l-test.true;
       left_there = omega (arith, c.entry_start.ensures.1);
-      right-long = search rules;
+      right_long = search rules;
       has_room = line_partial_room _ _ a.n a.i l.l l.line l.invariant.1 (polynomial_matrix_short a.n a.left.now)
-          (matrix_bytes a.n a.left.now (λ k. omega (arith, c.shared_slice_known-1.given k))) (matrix_bytes a.n a.right.now (λ k. omega (arith, c.shared_slice_known-2-1.given k))) h.order l.invariant.0;
+          (matrix_bytes a.n a.left.now (λ k. omega (arith, c.type_inv.left k))) (matrix_bytes a.n a.right.now (λ k. omega (arith, c.type_inv.right k))) h.order l.invariant.0;
     }
 
 pub loop-l-preserved : goal.loop-l-preserved
