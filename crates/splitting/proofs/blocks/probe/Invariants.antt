@@ -1,0 +1,12 @@
+-- The loop keeps that the vectors before j are killed, and ends with the first longer block or where no vector is left.
+use Rattle.std.proofs.Common.{◌≤◌, ◌<◌, ◌-◌}
+use Rattle.algebra.specs.Modular.{modulo}
+use Rattle.basis.specs.State.{frame, Fields}
+use Rattle.splitting.specs.Probe.{Probing}
+use Rattle.splitting.proofs.blocks.probe.Given as goal
+
+abbrev pub invariant-loop-s : goal.invariant-loop-s
+invariant-loop-s l = (l.m ≤ l.j) × (l.j < l.k) × Fields l.p l.n l.s × Probing (modulo l.p) l.n l.k l.m l.j (frame l.p l.n l.initial.s) (frame l.p l.n l.s)
+
+abbrev pub decreases-loop-s : goal.decreases-loop-s
+decreases-loop-s l = l.k - l.j
