@@ -1,5 +1,5 @@
 -- Each turn but the last makes a longer block, so that the turns end. The last finds nothing behind the block and all of the window killed.
-use Rattle.std.proofs.Common.{arith, ⊎_elim, ℕ, ◌-◌}
+use Rattle.std.proofs.Common.{arith, ℕ, ◌-◌}
 use borrow.Author.Tests.{not-false}
 use Rattle.algebra.specs.Modular.{modulo}
 use Rattle.basis.specs.State.{frame, Fields, given_next, prime_positive}
@@ -9,21 +9,21 @@ use Rattle.splitting.specs.Passing.{chain_end}
 use Rattle.splitting.specs.Probe.{Probing, split_of_probed}
 use Rattle.splitting.specs.Blocking.{chained_reach, settled_already, settle_grows, settle_stays, settle_probes, probe_skips, probe_ends, split_ends, split_change, split_headed}
 use Rattle.splitting.proofs.blocks.split.Goals as goal
-use Rattle.splitting.proofs.blocks.split.Goals.{Joined-first_pivot-k, Joined-not-is_settled}
+use Rattle.splitting.proofs.blocks.split.Goals.{Joined-first_pivot-k, Joined-not-is_settled, then-first_pivot-k, else-first_pivot-k, then-not-is_settled+else-m-h, else-not-is_settled}
 
 -- the pass is made, or there is nothing to pass: column 0 has no pivot
 chained : (c : Joined-first_pivot-k) → Fields c.args.p c.args.n c.if-first_pivot-k.c × ((m : ℕ) × Chained (modulo c.args.p) c.args.n c.args.k (frame c.args.p c.args.n c.args.s) m (frame c.args.p c.args.n c.if-first_pivot-k.c))
-chained c = ⊎_elim
-    (λ w. rw w.2 w.1.ensures)
-    (λ w. rw w.1 (c.requires.0.fields, (1, chain_end _ _ _ _ _ c.args.s c.args.s c.requires.0 c.requires.1 c.first_pivot.ensures w.0.left (passed_start _ _ _ _ _ _ (ready_first _ _ _ c.requires.2)))))
-    c.if-first_pivot-k.branch
+chained c = elim c.if-first_pivot-k.branch [
+  | then-first_pivot-k w ↦ rw w.c-is w.chain-y.ensures
+  | else-first_pivot-k w ↦ rw w.c-is (c.requires.0.fields, (1, chain_end _ _ _ _ _ c.args.s c.args.s c.requires.0 c.requires.1 c.first_pivot.ensures w.if-first_pivot-k.false (passed_start _ _ _ _ _ _ (ready_first _ _ _ c.requires.2))))
+]
 
 -- nothing is left behind the block, and it is as long as it was
 settled : (c : Joined-not-is_settled) → Fields c.args.p c.args.n c.if-not-is_settled.c × Probing (modulo c.args.p) c.args.n c.args.k c.loop-c.m c.loop-c.m (frame c.args.p c.args.n c.loop-c.c) (frame c.args.p c.args.n c.if-not-is_settled.c)
-settled c = ⊎_elim
-    (λ w. rw w.5 (w.1.ensures.0, settle_stays _ _ _ _ c.loop-c.c w.1.result (given_next c.requires.0 w.1.ensures.0) w.1.ensures.1 _ w.3.ensures w.4.left))
-    (λ w. rw w.1 (c.loop-c.invariant.0, settled_already _ _ _ _ c.loop-c.c (given_next c.requires.0 c.loop-c.invariant.0) c.loop-c.invariant.2 (c.is_settled.ensures (not-false _ w.0.left))))
-    c.if-not-is_settled.branch
+settled c = elim c.if-not-is_settled.branch [
+  | then-not-is_settled+else-m-h w ↦ rw w.c-is (w.settle-x.ensures.0, settle_stays _ _ _ _ c.loop-c.c w.settle-x.result (given_next c.requires.0 w.settle-x.ensures.0) w.settle-x.ensures.1 _ w.reach-h.ensures w.if-m-h.false)
+  | else-not-is_settled w ↦ rw w.c-is (c.loop-c.invariant.0, settled_already _ _ _ _ c.loop-c.c (given_next c.requires.0 c.loop-c.invariant.0) c.loop-c.invariant.2 (c.is_settled.ensures w.if-not-is_settled.false))
+]
 
 pub first_pivot-requires : goal.first_pivot-requires
 first_pivot-requires c = (c.requires.1, omega (arith, c.requires.0.fits, c.requires.0.order))

@@ -38,5 +38,5 @@ add_multiple-requires-2 c = (prime_positive _ c.requires.0.prime_p, c.factor-f.e
 pub returns : goal.returns
 returns c =
     let long : length c.add_columns-c.result ≡ 3 = search rules in
-    let r = rows_taken _ _ _ _ _ _ _ _ c.add_columns-c.result (prime_positive _ c.requires.0.prime_p) c.requires.0.order (omega (arith, c.requires.0.fits, c.requires.1.fits)) (squares c.add_columns-c.result _ long c.add_columns-c.type-inv.1.1) c.add_columns-c.ensures.0 c.combination.ensures c.add_multiple.ensures c.combination-2.ensures c.add_multiple-2.ensures in
+    let r = rows_taken _ _ _ _ _ _ _ _ c.add_columns-c.result (prime_positive _ c.requires.0.prime_p) c.requires.0.order (omega (arith, c.requires.0.fits, c.requires.1.fits)) (squares c.add_columns-c.result _ long c.add_columns-c.type_inv.1.1) c.add_columns-c.ensures.0 c.combination.ensures c.add_multiple.ensures c.combination-2.ensures c.add_multiple-2.ensures in
     (r.0, wiped_now _ _ _ _ _ c.args.s c.requires.0 c.requires.1 c.requires.2 _ c.tail-v.ensures c.add_columns-c.ensures.1 r.1)

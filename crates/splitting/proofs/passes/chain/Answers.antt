@@ -1,20 +1,20 @@
 -- The loop keeps the pass up to column j, and ends where that column has no pivot. A pivot stands in row j + 1 already, or is brought there; then column j
 -- can replace e_(j+1).
-use Rattle.std.proofs.Common.{arith, ⊎_elim, suc, ◌-◌}
+use Rattle.std.proofs.Common.{arith, suc, ◌-◌}
 use Rattle.algebra.specs.Modular.{modulo}
 use Rattle.basis.specs.State.{frame, Fields, given_whole, given_next}
 use Rattle.basis.specs.Searches.{column_of_row}
 use Rattle.splitting.specs.Pass.{passed_start, Pulled}
 use Rattle.splitting.specs.Passing.{pull_none, pull_some, push_some, push_nonzero, chain_turn, chain_end}
 use Rattle.splitting.proofs.passes.chain.Goals as goal
-use Rattle.splitting.proofs.passes.chain.Goals.{Joined-j-q}
+use Rattle.splitting.proofs.passes.chain.Goals.{Joined-j-q, then-j-q, else-j-q}
 
 -- the first pivot of column j has come to row j + 1
 pulled : (c : Joined-j-q) → Fields c.args.p c.args.n c.if-j-q.s × Pulled (modulo c.args.p) c.args.n c.args.k c.loop-s.j (frame c.args.p c.args.n c.loop-s.s) (frame c.args.p c.args.n c.if-j-q.s)
-pulled c = let g = given_next c.requires.0 c.loop-s.invariant.1 in ⊎_elim
-    (λ w. rw w.2 (w.1.ensures.fields _ c.loop-s.invariant.1, pull_some _ _ _ _ _ c.loop-s.s g c.loop-s.invariant.2.ready c.if-k-q.false c.first_pivot-q.ensures w.1.result w.0.taken w.1.ensures))
-    (λ w. rw w.1 (c.loop-s.invariant.1, pull_none _ _ _ _ _ c.loop-s.s g c.loop-s.invariant.2.ready c.if-k-q.false c.first_pivot-q.ensures w.0.left))
-    c.if-j-q.branch
+pulled c = let g = given_next c.requires.0 c.loop-s.invariant.1 in elim c.if-j-q.branch [
+  | then-j-q w ↦ rw w.s-is (w.exchange_vectors-y.ensures.fields _ c.loop-s.invariant.1, pull_some _ _ _ _ _ c.loop-s.s g c.loop-s.invariant.2.ready c.if-k-q.false c.first_pivot-q.ensures w.exchange_vectors-y.result w.if-j-q.true w.exchange_vectors-y.ensures)
+  | else-j-q w ↦ rw w.s-is (c.loop-s.invariant.1, pull_none _ _ _ _ _ c.loop-s.s g c.loop-s.invariant.2.ready c.if-k-q.false c.first_pivot-q.ensures w.if-j-q.false)
+]
 
 pub loop-s-init : goal.loop-s-init
 loop-s-init c = (c.requires.1, c.requires.0.fields, passed_start _ _ _ _ _ _ c.requires.2)
