@@ -1,0 +1,13 @@
+-- The loop keeps the stage: the window [0,k), and the blocks behind it.
+use Rattle.std.proofs.Common.{◌≤◌, [], get_or}
+use Rattle.algebra.specs.Modular.{modulo}
+use Rattle.basis.specs.State.{frame, Fields}
+use Rattle.matrices.specs.Matrices.{matrix}
+use Rattle.elimination.specs.Form.{Stage}
+use Rattle.elimination.proofs.elimination.reduce.Given as goal
+
+abbrev pub invariant-loop-k : goal.invariant-loop-k
+invariant-loop-k l = (l.k ≤ l.n) × Fields l.p l.n l.s × Stage (modulo l.p) l.n l.k (matrix l.p l.n (get_or l.initial.s 0 [])) (frame l.p l.n l.s)
+
+abbrev pub decreases-loop-k : goal.decreases-loop-k
+decreases-loop-k l = l.k
