@@ -5,7 +5,7 @@ use Rattle.entries.specs.Coefficients.{D_coefficient, zero_entry}
 use Rattle.entries.proofs.closed.d_entry.Given as goal
 
 abbrev pub invariant-loop-k : goal.invariant-loop-k
-invariant-loop-k l = (k ≤ l.n + 1) × (e ≡ filled k (D_coefficient l.p l.f l.i end) zero_entry)
+invariant-loop-k l = (l.k ≤ l.n + 1) × (l.e ≡ filled l.k (D_coefficient l.p l.f l.i l.end) zero_entry)
 
 abbrev pub decreases-loop-k : goal.decreases-loop-k
-decreases-loop-k l = l.n + 1 - k
+decreases-loop-k l = l.n + 1 - l.k
