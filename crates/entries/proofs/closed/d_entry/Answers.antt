@@ -1,19 +1,24 @@
 -- The loop: the first k coefficients are filled in.
-use Rattle.std.proofs.Common.{rules, arith, ◌≡◌, ◌-◌}
+use Rattle.std.proofs.Common.{◌<◌, rules, arith, ◌≡◌, ◌-◌}
 use Rattle.forms.specs.Numbers.{at}
 use Rattle.matrices.specs.Filling.{fill_start, fill_turn, fill_end}
 use Rattle.entries.specs.Coefficients.{D_entry}
 use Rattle.entries.proofs.closed.d_entry.Goals as goal
 
 pub bounds-last-i : goal.bounds-last-i
-bounds-last-i c = omega (arith, (rw c.index-i.ensures (c.requires.2.row _)), c.requires.1)
+bounds-last-i c =
+    -- the row of F is in a block that ends below n
+    let row : c.index-i.result < c.args.n = rw c.index-i.ensures (c.requires.2.row _) in
+    omega (arith, c.requires.1)
 
 pub loop-k-init : goal.loop-k-init
 loop-k-init c = (search rules, fill_start _ _)
 
 pub d_coefficient-requires : goal.d_coefficient-requires
 d_coefficient-requires c =
-    (omega (arith, (rw c.index-i.ensures (c.requires.2.row _)), c.requires.1), omega (arith, (rw (c.index-end.ensures, c.index-i.ensures) (c.requires.2.end _)), c.requires.1), omega (arith, c.requires), c.requires.3)
+    let row : c.index-i.result < c.args.n = rw c.index-i.ensures (c.requires.2.row _) in
+    let end : c.index-end.result < c.args.n = rw (c.index-end.ensures, c.index-i.ensures) (c.requires.2.end _) in
+    (omega (arith, c.requires.1), omega (arith, c.requires.1), omega (arith, c.requires), c.requires.3)
 
 pub loop-k-preserved : goal.loop-k-preserved
 loop-k-preserved c = (search rules, fill_turn _ _ _ (search rules) c.loop-k.invariant.1 c.d_coefficient.ensures)
