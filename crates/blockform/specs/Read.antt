@@ -6,11 +6,12 @@ use Rattle.forms.specs.Numbers.{at, order_limit}
 use Rattle.forms.specs.Answers.{fine, ask, each}
 use Rattle.forms.specs.Certificate.{size, offset, certificate_length, part}
 use Rattle.forms.specs.Reading.{record_asked, records_asked}
-use Rattle.forms.specs.Tests.{then_fine, each_fine}
-use Rattle.forms.specs.Records.{offset_suc, offset_within}
-use Rattle.forms.specs.OneRecord.{RecordRead, record_read}
-use Rattle.forms.specs.Layouts.{order_and_prime_means}
-use Rattle.forms.specs.Prefixes.{certificate_length_rises}
+use Rattle.forms.proofs.Tests.{then_fine, each_fine}
+use Rattle.forms.proofs.Records.{offset_suc, offset_within}
+use Rattle.forms.specs.OneRecord.{RecordRead}
+use Rattle.forms.proofs.OneRecord.{record_read}
+use Rattle.forms.proofs.Layouts.{order_and_prime_means}
+use Rattle.forms.proofs.Prefixes.{certificate_length_rises}
 
 -- HD and MA are read
 module _ (s : List ℕ) (read : records_asked 2 s ≡ fine) where

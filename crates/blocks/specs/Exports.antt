@@ -4,7 +4,7 @@ use Rattle.std.proofs.Common.{sym, ◌∙◌, ap}
 use Rattle.forms.specs.Answers.{analysed_number, analysed_place, verdict_number, verdict_place, reciprocal_number, reciprocal_value}
 use Rattle.forms.specs.Operations.{Analyses, Checks}
 use Rattle.forms.specs.Reciprocals.{Reciprocates}
-use Rattle.forms.specs.Determined.{analysis_same_answer, check_determined, reciprocal_determined}
+use Rattle.forms.proofs.Determined.{analysis_same_answer, check_determined, reciprocal_determined}
 use Rattle.forms.specs.declared.Analysed.{Analysed}
 use Rattle.forms.specs.declared.Verdict.{Verdict}
 use Rattle.forms.specs.declared.Reciprocal.{Reciprocal}

@@ -4,7 +4,7 @@ use Rattle.std.proofs.Common.{sym, ◌∙◌, ap, add_assoc, mul-le-mul, mul-suc
 use Rattle.forms.specs.Numbers.{at, total}
 use Rattle.forms.specs.Certificate.{mark, joined, size, offset}
 use Rattle.forms.specs.Reading.{marked}
-use Rattle.forms.specs.Records.{ten_cases, offset_suc}
+use Rattle.forms.proofs.Records.{ten_cases, offset_suc}
 
 -- the ten marks, one after the other
 unfoldable pub marks : List ℕ

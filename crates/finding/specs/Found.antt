@@ -8,9 +8,9 @@ use Rattle.forms.specs.Answers.{Asked, fine, refuse}
 use Rattle.forms.specs.Certificate.{mark, payload, size, offset, part}
 use Rattle.forms.specs.Reading.{marked, reading, certificate_of}
 use Rattle.forms.specs.Operations.{is_mark, part_found, Finds}
-use Rattle.forms.specs.Tests.{equal_holds, and_parts, and_holds}
-use Rattle.forms.specs.Layouts.{payload_read, reading_laid_out}
-use Rattle.forms.specs.Findings.{found_by_mark, nothing_found, payload_not_empty}
+use Rattle.forms.proofs.Tests.{equal_holds, and_parts, and_holds}
+use Rattle.forms.proofs.Layouts.{payload_read, reading_laid_out}
+use Rattle.forms.proofs.Findings.{found_by_mark, nothing_found, payload_not_empty}
 use Rattle.forms.specs.declared.Fault.{Fault}
 use Rattle.certificate.specs.Sizes.{mark_by_table, offset_next}
 use Rattle.certificate.specs.ReadRecords.{read_of, good_read, payload_within}

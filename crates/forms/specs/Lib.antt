@@ -11,22 +11,10 @@ pub mod Rules
 pub mod Words
 pub mod Operations
 -- Document 01's cases, and the theorems.
-pub mod AsDocumented
-pub mod Tests
-pub mod Primes
-pub mod InversesModulo
 pub mod Records
-pub mod Payloads
 pub mod OneRecord
-pub mod Layouts
 pub mod Findings
-pub mod Promises
-pub mod Prefixes
-pub mod Rings
 pub mod Bounds
-pub mod Remainders
-pub mod Inverses
-pub mod RulesMean
 pub mod Listed
 pub mod Uniqueness
 pub mod Determined
@@ -38,12 +26,8 @@ pub mod ListedErrors
 pub mod BlockIndices
 pub mod BlockPermutation
 pub mod SmithDiagonals
-pub mod FrobeniusEntries
-pub mod Scalars
-pub mod FrobeniusReduction
 pub mod ClosedForms
 pub mod ClosedBounds
-pub mod ClosedMatrices
 pub mod ClosedRules
 pub mod LegalRequests
 pub mod Certifying

@@ -4,8 +4,8 @@ use Rattle.std.proofs.Common.{sym, ◌∙◌, ap, subst, mul-le-mul, mul-suc, ad
 use Rattle.forms.specs.Numbers.{order_limit}
 use Rattle.forms.specs.Certificate.{Certificate, mark, payload, record_bytes, size, offset, certificate_length}
 use Rattle.forms.specs.Words.{LaidOut}
-use Rattle.forms.specs.Records.{ten_cases, offset_within}
-use Rattle.forms.specs.Payloads.{payload_length}
+use Rattle.forms.proofs.Records.{ten_cases, offset_within}
+use Rattle.forms.proofs.Payloads.{payload_length}
 use Rattle.certificate.specs.Sizes.{offset_next}
 use Rattle.writing.specs.Put.{put, Puts, puts_then, puts_bytes}
 use Rattle.writing.specs.Written.{head_bytes, head_length, head_then_payload, RecordsPut, next_record_put}

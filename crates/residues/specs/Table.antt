@@ -3,7 +3,7 @@ use Rattle.std.specs.Prelude.{Bool, ◌&&◌, List, [], ◌∷◌, ℕ, zero, su
 use Rattle.std.proofs.Common.{arith, eqb→eq, ltb→lt}
 use Rattle.forms.specs.Numbers.{every}
 use Rattle.forms.specs.Reciprocals.{InverseOf}
-use Rattle.forms.specs.Tests.{and_parts, every_at}
+use Rattle.forms.proofs.Tests.{and_parts, every_at}
 
 unfoldable pub reciprocals : List ℕ
 reciprocals =

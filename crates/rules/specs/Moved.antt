@@ -5,8 +5,8 @@ use Rattle.std.proofs.Math.Decide.{ℕ_discrete, dec_le}
 use Rattle.forms.specs.Numbers.{at, order_limit}
 use Rattle.forms.specs.Polynomials.{Coefficients}
 use Rattle.forms.specs.Matrices.{Entries, matrix, unit, characteristic}
-use Rattle.forms.specs.Tests.{cond_holds, cond_fails, equal_holds}
-use Rattle.forms.specs.Bounds.{characteristic_short}
+use Rattle.forms.proofs.Tests.{cond_holds, cond_fails, equal_holds}
+use Rattle.forms.proofs.Bounds.{characteristic_short}
 use Rattle.products.specs.Sums.{product_limit, coefficients, coefficients_small, shifted, shifted_inside, shifted_outside, monomial, monomial_same, monomial_other, monomial_none, monomial_small, plus_monomial, products}
 use Rattle.products.specs.Products.{ByteEntries}
 use Rattle.products.specs.Lines.{RoomFor, PlusLine, line_one, line_room, line_products_room}

@@ -9,10 +9,11 @@ use Rattle.algebra.specs.Modular.{modulo, Prime, positive}
 use Rattle.forms.specs.Matrices.{Entries, PolynomialEntries, polynomial_matrix, diagonal, polynomial_unit, diagonal_matrix, characteristic, polynomial_product}
 use Rattle.forms.specs.Rules.{polynomial_equal}
 use Rattle.forms.specs.Words.{PolynomialEqual}
-use Rattle.forms.specs.Bounds.{ShortEntries, polynomial_matrix_short, characteristic_short, diagonal_matrix_short, product_short, smith_product_short, inverse_product_short, polynomial_unit_short}
-use Rattle.forms.specs.Rings.{Over, lift_over, product_over, over_equal, equal_over}
-use Rattle.forms.specs.Inverses.{polynomial_inverse}
-use Rattle.forms.specs.RulesMean.{polynomial_equal_means}
+use Rattle.forms.specs.Bounds.{ShortEntries}
+use Rattle.forms.proofs.Bounds.{polynomial_matrix_short, characteristic_short, diagonal_matrix_short, product_short, smith_product_short, inverse_product_short, polynomial_unit_short}
+use Rattle.forms.proofs.Rings.{Over, lift_over, product_over, over_equal, equal_over}
+use Rattle.forms.proofs.Inverses.{polynomial_inverse}
+use Rattle.forms.proofs.RulesMean.{polynomial_equal_means}
 use Rattle.polynomials.specs.Rule.{same_answer}
 
 -- over F_p[X], with each matrix as its entries modulo p

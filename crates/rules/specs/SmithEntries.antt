@@ -6,7 +6,7 @@ use Rattle.std.proofs.Math.Decide.{ℕ_discrete}
 use Rattle.forms.specs.Numbers.{at, total, order_limit}
 use Rattle.forms.specs.Polynomials.{Coefficients, convolution}
 use Rattle.forms.specs.Matrices.{PolynomialEntries, matrix, polynomial_matrix, diagonal, diagonal_matrix, characteristic, polynomial_product}
-use Rattle.forms.specs.Tests.{cond_holds, cond_fails, equal_holds, total_suc, total_equal, total_of_zeros}
+use Rattle.forms.proofs.Tests.{cond_holds, cond_fails, equal_holds, total_suc, total_equal, total_of_zeros}
 use Rattle.products.specs.Indices.{Inside}
 use Rattle.products.specs.Sums.{term_limit, coefficients, Plus}
 use Rattle.products.specs.Products.{same_modulo, Holding, holding_nothing, holding_plus, entry_coefficients}

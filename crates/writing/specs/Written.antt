@@ -7,8 +7,8 @@ use Rattle.std.proofs.Math.ListN.{drop}
 use Rattle.forms.specs.Numbers.{at}
 use Rattle.forms.specs.Certificate.{Certificate, mark, payload, record_bytes, joined, layout, size, offset, certificate_length}
 use Rattle.forms.specs.Words.{LaidOut}
-use Rattle.forms.specs.Records.{record_length, joined_length, offset_within}
-use Rattle.forms.specs.Payloads.{payload_length}
+use Rattle.forms.proofs.Records.{record_length, joined_length, offset_within}
+use Rattle.forms.proofs.Payloads.{payload_length}
 use Rattle.certificate.specs.Sizes.{marks, mark_by_table}
 use Rattle.writing.specs.Put.{put, put_nothing, put_put}
 

@@ -6,7 +6,7 @@ use native.Mathlib.Omega.{arith}
 use lib.ListN.{length}
 use lib.Seq.{length-take-le}
 use Rattle.forms.specs.Numbers.{at}
-use Rattle.forms.specs.Bounds.{degree_limited}
+use Rattle.forms.proofs.Bounds.{degree_limited}
 use Rattle.blockform.proofs.listing.print_polynomial.Statement.{statement}
 use Rattle.blockform.proofs.listing.print_polynomial.Tie as tie
 

@@ -15,7 +15,7 @@ use Rattle.algebra.specs.Polynomial.{Polynomial, polynomials, polynomial_equal, 
 use Rattle.algebra.specs.Characteristic.{scalars, characteristic, characteristic_within}
 use Rattle.algebra.specs.Modular.{Residue, residue, residue_equal, equal_residue, residue_plus, residue_times, residue_zero, residue_one, residue_minus, modulo}
 use Rattle.forms.specs.Numbers.{total}
-use Rattle.forms.specs.Tests.{cond_holds, cond_fails}
+use Rattle.forms.proofs.Tests.{cond_holds, cond_fails}
 use Rattle.forms.specs.Polynomials.{Coefficients, convolution}
 use Rattle.forms.specs.Matrices as definitions
 use Rattle.forms.specs.Matrices.{Entries, PolynomialEntries, unit, polynomial_unit, diagonal_matrix, field_product, polynomial_product}

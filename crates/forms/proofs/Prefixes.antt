@@ -11,10 +11,11 @@ use Rattle.forms.specs.Answers.{Asked, fine, refuse, ◌then◌, ask, each}
 use Rattle.forms.specs.Certificate.{size, offset, certificate_length}
 use Rattle.forms.specs.Reading.{order_and_prime, record_asked, records_asked, reading, certificate_of}
 use Rattle.forms.specs.Rules.{rules, verdict_of, verdict}
-use Rattle.forms.specs.Tests.{ask_fine, then_fine, each_fine}
-use Rattle.forms.specs.Records.{offset_suc, offset_within, certificate_length_is}
-use Rattle.forms.specs.OneRecord.{content_asked, record_read}
-use Rattle.forms.specs.Layouts.{order_and_prime_means}
+use Rattle.forms.proofs.Tests.{ask_fine, then_fine, each_fine}
+use Rattle.forms.proofs.Records.{offset_suc, offset_within, certificate_length_is}
+use Rattle.forms.specs.OneRecord.{content_asked}
+use Rattle.forms.proofs.OneRecord.{record_read}
+use Rattle.forms.proofs.Layouts.{order_and_prime_means}
 
 -- questions that are the same as long as nothing is refused come to the same
 then_equal : (q r t u : Asked) → q ≡ r → (q ≡ fine → t ≡ u) → (q then t) ≡ (r then u)

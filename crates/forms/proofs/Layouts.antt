@@ -14,11 +14,13 @@ use Rattle.forms.specs.Answers.{Asked, fine, ◌then◌, ask, each}
 use Rattle.forms.specs.Certificate.{Certificate, mark, payload, record_bytes, joined, layout, size, offset, certificate_length, part}
 use Rattle.forms.specs.Reading.{order_and_prime, record_asked, records_asked, reading, certificate_of}
 use Rattle.forms.specs.Words.{Residues, LaidOut}
-use Rattle.forms.specs.Tests.{and_parts, and_holds, ask_fine, fine_ask, then_fine, fine_then, each_fine, fine_each}
-use Rattle.forms.specs.Primes.{prime_positive}
-use Rattle.forms.specs.Records.{ten_cases, laid_record, record_bytes_laid, record_length, joined_length, joined_at, offset_suc, offset_within, certificate_length_is}
-use Rattle.forms.specs.Payloads.{payload_length}
-use Rattle.forms.specs.OneRecord.{Bytes, RecordRead, content_asked, record_read, read_record, part_length, part_at, record_of_bytes}
+use Rattle.forms.proofs.Tests.{and_parts, and_holds, ask_fine, fine_ask, then_fine, fine_then, each_fine, fine_each}
+use Rattle.forms.proofs.Primes.{prime_positive}
+use Rattle.forms.specs.Records.{laid_record}
+use Rattle.forms.proofs.Records.{ten_cases, record_bytes_laid, record_length, joined_length, joined_at, offset_suc, offset_within, certificate_length_is}
+use Rattle.forms.proofs.Payloads.{payload_length}
+use Rattle.forms.specs.OneRecord.{Bytes, RecordRead, content_asked}
+use Rattle.forms.proofs.OneRecord.{record_read, read_record, part_length, part_at, record_of_bytes}
 
 pub order_and_prime_means : (n p : ℕ) → order_and_prime n p ≡ fine → (1 ≤ n) × (n ≤ order_limit) × T (prime p)
 unfolding order_and_prime

@@ -6,7 +6,7 @@ use Rattle.std.proofs.Common.{arith, lit<, lit≤}
 use Rattle.forms.specs.Numbers.{prime, order_limit}
 use Rattle.forms.specs.Certificate.{Certificate, payload, size}
 use Rattle.forms.specs.Words.{Residues, LaidOut}
-use Rattle.forms.specs.Records.{ten_cases}
+use Rattle.forms.proofs.Records.{ten_cases}
 
 -- a laid out certificate from its nine payloads, and back
 pub laid_out : (c : Certificate) → 1 ≤ c.n → c.n ≤ order_limit → T (prime c.p)
