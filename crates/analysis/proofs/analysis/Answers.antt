@@ -12,16 +12,16 @@ returns-in-Refused c =
     analyses_refused a.p a.n a.matrix.now a.out.now (sym c.analysis_asked-asked.ensures ∙ ap limits_asked c.in-Refused.is)
 
 pub overflow_cast-p : goal.overflow_cast-p
-overflow_cast-p c = omega (arith, prime_limited c.args.p ((asked_legal _ _ _ _ ((sym c.analysis_asked-asked.ensures ∙ ap limits_asked c.in_default.is)))).prime_p)
+overflow_cast-p c = omega (arith, prime_limited c.args.p (asked_legal _ _ _ _ (sym c.analysis_asked-asked.ensures ∙ ap limits_asked c.in_default.is)).prime_p)
 
 pub overflow_cast-n : goal.overflow_cast-n
-overflow_cast-n c = omega (arith, ((asked_legal _ _ _ _ ((sym c.analysis_asked-asked.ensures ∙ ap limits_asked c.in_default.is)))).high)
+overflow_cast-n c = omega (arith, (asked_legal _ _ _ _ (sym c.analysis_asked-asked.ensures ∙ ap limits_asked c.in_default.is)).high)
 
 pub write-requires : goal.write-requires
-write-requires c = let a = c.args in ((asked_legal _ _ _ _ ((sym c.analysis_asked-asked.ensures ∙ ap limits_asked c.in_default.is))), asked_room a.p a.n a.matrix.now (length a.out.now) ((sym c.analysis_asked-asked.ensures ∙ ap limits_asked c.in_default.is)))
+write-requires c = let a = c.args in ((asked_legal _ _ _ _ (sym c.analysis_asked-asked.ensures ∙ ap limits_asked c.in_default.is)), asked_room a.p a.n a.matrix.now (length a.out.now) (sym c.analysis_asked-asked.ensures ∙ ap limits_asked c.in_default.is))
 
 pub returns : goal.returns
 returns c =
     let a = c.args in
     let w = c.write.ensures in
-    analyses_written a.p a.n a.matrix.now a.out.now ((sym c.analysis_asked-asked.ensures ∙ ap limits_asked c.in_default.is)) w.0 w.1
+    analyses_written a.p a.n a.matrix.now a.out.now (sym c.analysis_asked-asked.ensures ∙ ap limits_asked c.in_default.is) w.0 w.1

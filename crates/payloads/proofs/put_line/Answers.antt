@@ -28,13 +28,13 @@ pub overflow_add-at : goal.overflow_add-at
 overflow_add-at c = omega (arith, row_place c.loop-c.c 0 c.args.n c.args.n c.loop-c-test.true (omega (arith, c.loop-c-test.true)), c.requires.2)
 
 pub closed_entry-requires : goal.closed_entry-requires
-closed_entry-requires c = ((line_zeros (λ i. listed c.args.n (closed_entry c.args.p c.args.s.now c.args.from.now c.args.last.now c.args.kind c.args.r i)) c.args.n (λ i. listed_length _ _) ((zeros_there (order_limit * order_limit) c.put_bytes-end.ensures (mul-le-mul c.requires.1 c.requires.1) c.requires.2)) c.loop-c-test.true c.loop-c.invariant.1).room, c.requires.0, c.loop-c-test.true, c.requires.1, c.requires.3, c.requires.4, c.requires.5)
+closed_entry-requires c = ((line_zeros (λ i. listed c.args.n (closed_entry c.args.p c.args.s.now c.args.from.now c.args.last.now c.args.kind c.args.r i)) c.args.n (λ i. listed_length _ _) (zeros_there (order_limit * order_limit) c.put_bytes-end.ensures (mul-le-mul c.requires.1 c.requires.1) c.requires.2) c.loop-c-test.true c.loop-c.invariant.1).room, c.requires.0, c.loop-c-test.true, c.requires.1, c.requires.3, c.requires.4, c.requires.5)
 
 pub loop-c-preserved : goal.loop-c-preserved
 loop-c-preserved c =
-    let free = line_zeros (λ i. listed c.args.n (closed_entry c.args.p c.args.s.now c.args.from.now c.args.last.now c.args.kind c.args.r i)) c.args.n (λ i. listed_length _ _) ((zeros_there (order_limit * order_limit) c.put_bytes-end.ensures (mul-le-mul c.requires.1 c.requires.1) c.requires.2)) c.loop-c-test.true c.loop-c.invariant.1 in (
+    let free = line_zeros (λ i. listed c.args.n (closed_entry c.args.p c.args.s.now c.args.from.now c.args.last.now c.args.kind c.args.r i)) c.args.n (λ i. listed_length _ _) (zeros_there (order_limit * order_limit) c.put_bytes-end.ensures (mul-le-mul c.requires.1 c.requires.1) c.requires.2) c.loop-c-test.true c.loop-c.invariant.1 in (
       search rules,
-      line_turn (λ i. listed c.args.n (closed_entry c.args.p c.args.s.now c.args.from.now c.args.last.now c.args.kind c.args.r i)) c.args.n (λ i. listed_length _ _) ((zeros_there (order_limit * order_limit) c.put_bytes-end.ensures (mul-le-mul c.requires.1 c.requires.1) c.requires.2)) c.loop-c-test.true c.loop-c.invariant.1 (short_put_whole _ _ _ _ free c.closed_entry.ensures),
+      line_turn (λ i. listed c.args.n (closed_entry c.args.p c.args.s.now c.args.from.now c.args.last.now c.args.kind c.args.r i)) c.args.n (λ i. listed_length _ _) (zeros_there (order_limit * order_limit) c.put_bytes-end.ensures (mul-le-mul c.requires.1 c.requires.1) c.requires.2) c.loop-c-test.true c.loop-c.invariant.1 (short_put_whole _ _ _ _ free c.closed_entry.ensures),
       omega (arith, c.closed_entry.auto, c.loop-c.invariant.2),
     )
 

@@ -8,16 +8,16 @@ pub loop-b-init : goal.loop-b-init
 loop-b-init c = euclid_start (prime_means _ c.requires.0) c.requires.1 c.requires.2
 
 pub overflow_mul-next : goal.overflow_mul-next
-overflow_mul-next c = omega (arith, euclid_fits ((prime_means c.args.p c.requires.0)) c.loop-b.invariant (omega arith))
+overflow_mul-next c = omega (arith, euclid_fits (prime_means c.args.p c.requires.0) c.loop-b.invariant (omega arith))
 
 pub overflow_add-next : goal.overflow_add-next
-overflow_add-next c = omega (arith, euclid_fits ((prime_means c.args.p c.requires.0)) c.loop-b.invariant (omega arith))
+overflow_add-next c = omega (arith, euclid_fits (prime_means c.args.p c.requires.0) c.loop-b.invariant (omega arith))
 
 pub loop-b-smaller : goal.loop-b-smaller
 loop-b-smaller c = mod-lt c.loop-b.a (omega arith)
 
 pub loop-b-preserved : goal.loop-b-preserved
-loop-b-preserved c = euclid_step ((prime_means c.args.p c.requires.0)) c.loop-b.invariant (omega arith)
+loop-b-preserved c = euclid_step (prime_means c.args.p c.requires.0) c.loop-b.invariant (omega arith)
 
 pub returns : goal.returns
-returns c = euclid_end ((prime_means c.args.p c.requires.0)) c.loop-b.invariant (omega arith) (omega arith)
+returns c = euclid_end (prime_means c.args.p c.requires.0) c.loop-b.invariant (omega arith) (omega arith)

@@ -1,5 +1,6 @@
 -- The code is the sieve of specs/Primes.antt.
-use Rattle.residues.specs.Primes.{sieve, sieve_is_prime}
+use Rattle.residues.specs.Primes.{sieve}
+use Rattle.residues.proofs.Primes.{sieve_is_prime}
 use Rattle.residues.proofs.residue.is_prime.Goals as goal
 
 pub returns : goal.returns

@@ -1,6 +1,7 @@
 -- At 251 the code's table is the one whose rule is proved in specs/Table.antt.
 use Rattle.std.proofs.Common.{arith}
-use Rattle.residues.specs.Table.{reciprocals, reciprocal_at}
+use Rattle.residues.specs.Table.{reciprocals}
+use Rattle.residues.proofs.TableRule.{reciprocal_at}
 use Rattle.residues.proofs.residue.reciprocal_of.Goals as goal
 
 pub returns-then-p-eq251 : goal.returns-then-p-eq251

@@ -60,7 +60,7 @@ pub first_unkilled-j-requires : goal.first_unkilled-j-requires
 first_unkilled-j-requires c = (c.requires.0.order, prime_positive _ c.requires.0.prime_p, omega (arith, c.loop-c.invariant.2.fits), c.requires.0.fits, c.loop-c.invariant.2.some, omega (arith, c.requires.0.fits, c.loop-c.invariant.2.fits), (settled c.before).0.B)
 
 pub returns-then-k-j : goal.returns-then-k-j
-returns-then-k-j c = ((settled c.before.before.before).0, (_, split_of_probed _ _ _ _ _ _ _ _ ((change_then _ _ _ (chained c.before.before.before.before.before.before.before.before.before).1.1.passed.change c.loop-c.invariant.1)) (probe_ends _ _ _ _ _ c.loop-c.c c.if-not-is_settled.c c.requires.0.fits c.if-k-j.true c.first_unkilled-j.ensures.high (probe_skips _ _ _ _ _ c.first_unkilled-j.result c.loop-c.c c.if-not-is_settled.c c.requires.0.fits (settled c.before.before.before).1 c.first_unkilled-j.ensures)) (omega arith)))
+returns-then-k-j c = ((settled c.before.before.before).0, (_, split_of_probed _ _ _ _ _ _ _ _ (change_then _ _ _ (chained c.before.before.before.before.before.before.before.before.before).1.1.passed.change c.loop-c.invariant.1) (probe_ends _ _ _ _ _ c.loop-c.c c.if-not-is_settled.c c.requires.0.fits c.if-k-j.true c.first_unkilled-j.ensures.high (probe_skips _ _ _ _ _ c.first_unkilled-j.result c.loop-c.c c.if-not-is_settled.c c.requires.0.fits (settled c.before.before.before).1 c.first_unkilled-j.ensures)) (omega arith)))
 
 pub probe-x-requires : goal.probe-x-requires
 probe-x-requires c = (given_next c.requires.0 (settled c.before.before.before).0, (settled c.before.before.before).1.headed, (settled c.before.before.before).1.flat, c.if-k-j.false, c.first_unkilled-j.ensures)
@@ -69,7 +69,7 @@ pub reach-h-requires-in-loop-c : goal.reach-h-requires-in-loop-c
 reach-h-requires-in-loop-c c = (c.requires.1, omega (arith, c.requires.0.fits, c.requires.0.order))
 
 pub returns-then-h-m : goal.returns-then-h-m
-returns-then-h-m c = (c.probe-x.ensures.0, split_ends _ _ _ _ c.args.s c.loop-c.c c.probe-x.result (given_next c.requires.0 c.probe-x.ensures.0) ((change_then _ _ _ (chained c.before.before.before.before.before.before.before.before.before.before.before.before.before).1.1.passed.change c.loop-c.invariant.1)) (settle_probes _ _ _ _ c.loop-c.c c.if-not-is_settled.c c.probe-x.result (settled c.before.before.before.before.before.before.before).1 c.probe-x.ensures.1) _ c.reach-h-in-loop-c.ensures c.if-h-m.true)
+returns-then-h-m c = (c.probe-x.ensures.0, split_ends _ _ _ _ c.args.s c.loop-c.c c.probe-x.result (given_next c.requires.0 c.probe-x.ensures.0) (change_then _ _ _ (chained c.before.before.before.before.before.before.before.before.before.before.before.before.before).1.1.passed.change c.loop-c.invariant.1) (settle_probes _ _ _ _ c.loop-c.c c.if-not-is_settled.c c.probe-x.result (settled c.before.before.before.before.before.before.before).1 c.probe-x.ensures.1) _ c.reach-h-in-loop-c.ensures c.if-h-m.true)
 
 pub loop-c-smaller : goal.loop-c-smaller
 loop-c-smaller c = omega (arith, c.if-h-m.false, c.reach-h-in-loop-c.ensures.fits)
