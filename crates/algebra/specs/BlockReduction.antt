@@ -1,6 +1,6 @@
 -- x E - F for a matrix F of companion blocks over any ring: it is left_factor D right_factor, where D has the polynomial of each
 -- block at the block's head and one elsewhere, and right_factor has an inverse.
-use Rattle.std.specs.Prelude.{◌≡◌, refl, ◌≢◌, Bool, true, false, [], ◌∷◌, ℕ, zero, suc, ◌+◌, ◌-◌, ◌<◌}
+use Rattle.std.specs.Prelude.{◌≡◌, refl, ◌≢◌, Bool, true, false, [], ◌∷◌, ℕ, zero, suc, ◌<◌}
 use Rattle.std.proofs.Common.{sym, ◌∙◌, ap, ap₂, arith}
 use Rattle.std.proofs.Math.Decide.{dec_lt}
 use Rattle.algebra.specs.Ring.{Ring, one_times, times_one, minus_zero}

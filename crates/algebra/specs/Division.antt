@@ -1,6 +1,6 @@
 -- Division with remainder by a polynomial whose last coefficient has an inverse: it exists, and is unique. Over any ring
 -- this divides by the monic polynomials, and over a field by every polynomial but zero.
-use Rattle.std.specs.Prelude.{◌≡◌, refl, ◌≢◌, ◌↔◌, ℕ, zero, suc, ◌+◌, ◌-◌, ◌<◌}
+use Rattle.std.specs.Prelude.{◌≡◌, refl, ◌≢◌, ◌↔◌, ℕ, zero, suc, ◌+◌, ◌<◌}
 use Rattle.std.proofs.Common.{sym, ◌∙◌, ap, subst, arith}
 use mathlib.Core.HLevel.{Π_prop, is_prop→PathP}
 use Rattle.std.proofs.Math.Logic.{∥∥₁_elim}

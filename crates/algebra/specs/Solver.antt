@@ -4,7 +4,7 @@ use Rattle.std.specs.Prelude.{◌≡◌, T}
 use Rattle.std.proofs.Math.Path.{refl, sym, ap}
 use Rattle.std.proofs.Common.{◌∙◌, subst, eqb→eq}
 use mathlib.Core.List.{List, [], ◌∷◌}
-use Prim.Native.Nat.{ℕ, zero, compare, Ordering}
+use Prim.Native.Nat.{ℕ, compare, Ordering}
 use Rattle.std.proofs.Math.Dec.{compare_is_eq}
 use Rattle.std.proofs.Math.ListN.{get_or}
 use Rattle.algebra.specs.Ring.{Ring, plus_associative, plus_left_commutative, times_associative, times_left_commutative, zero_plus, plus_zero, one_times, times_one, times_plus, plus_times, times_zero, zero_times, minus_plus_left, plus_minus_left, minus_zero, minus_minus, times_minus, minus_times, minus_of_plus}

@@ -4,22 +4,21 @@
 
 use answers::{verdict_number, verdict_place};
 use forms::Verdict;
-use libc::STDIN_FILENO;
-use report::{print_line_end, print_refusal, print_text};
+use report::{print_line_end, print_refusal, print_text, read_input};
+use std::io;
 use verdict::check::check;
 
-fn print_verdict(verdict: Verdict) {
+fn print_verdict(rt: &impl Print, verdict: Verdict) -> io::Result<()> {
     let number = verdict_number(verdict);
     if number == 0 {
-        print_text(b"accepted");
-        print_line_end();
-        return;
+        print_text(rt, b"accepted")?;
+        return print_line_end(rt);
     }
-    print_refusal(number, verdict_place(verdict));
+    print_refusal(rt, number, verdict_place(verdict))
 }
 
-fn main() {
-    let mut buffer = io::large_buffer();
-    let count = io::read_full(STDIN_FILENO, &mut buffer);
-    print_verdict(check(&buffer[..count]));
+fn main(rt: HostRuntime) -> io::Result<()> {
+    let mut buffer = [0u8; 65536];
+    let count = read_input(&rt, &mut buffer)?;
+    print_verdict(&rt, check(&buffer[..count]))
 }

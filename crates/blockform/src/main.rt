@@ -15,8 +15,8 @@ use answers::{analysed_number, analysed_place, fault_number, fault_place};
 use certificate::reading::{Read, byte, read_matrix};
 use finding::payload;
 use forms::ORDER;
-use libc::STDIN_FILENO;
-use report::print_refusal;
+use report::{print_refusal, read_input};
+use std::io;
 
 // The certificate of a matrix of the largest order.
 const ROOM: usize = 4 * ORDER * ORDER * ORDER + 5 * ORDER * ORDER + ORDER + 42;
@@ -27,38 +27,37 @@ const DF: usize = 2;
 const FB: usize = 7;
 
 // The certificate stands at the front of the room.
-fn print_certificate(p: u8, n: u8, room: &[u8])
+fn print_certificate(rt: &impl Print, p: u8, n: u8, room: &[u8]) -> io::Result<()>
     requires { (n ≤ order_limit) × (length room.now ≡ certificate_length order_limit) }
 {
-    print_listing(p, n, payload(room, n, DF), payload(room, n, FB));
+    print_listing(rt, p, n, payload(room, n, DF), payload(room, n, FB))
 }
 
-fn print_forms(p: u8, n: u8, matrix: &[u8])
+fn print_forms(rt: &impl Print, p: u8, n: u8, matrix: &[u8]) -> io::Result<()>
     requires { n ≤ order_limit }
 {
     let mut room = [0u8; ROOM];
     let analysed = analysis(p as u64, n as u64, matrix, &mut room);
     let number = analysed_number(analysed);
     if number != 0 {
-        print_refusal(number, analysed_place(analysed));
-        return;
+        return print_refusal(rt, number, analysed_place(analysed));
     }
-    print_certificate(p, n, &room);
+    print_certificate(rt, p, n, &room)
 }
 
-fn print_answer(input: &[u8]) {
+fn print_answer(rt: &impl Print, input: &[u8]) -> io::Result<()> {
     let read = read_matrix(input);
     match read {
         Read::Good(_) => {
             let n = byte(input, 5);
-            print_forms(byte(input, 4), n, payload(input, n, 1));
+            print_forms(rt, byte(input, 4), n, payload(input, n, 1))
         }
-        Read::Bad(fault) => print_refusal(fault_number(fault), fault_place(fault)),
+        Read::Bad(fault) => print_refusal(rt, fault_number(fault), fault_place(fault)),
     }
 }
 
-fn main() {
-    let mut buffer = io::large_buffer();
-    let count = io::read_full(STDIN_FILENO, &mut buffer);
-    print_answer(&buffer[..count]);
+fn main(rt: HostRuntime) -> io::Result<()> {
+    let mut buffer = [0u8; 65536];
+    let count = read_input(&rt, &mut buffer)?;
+    print_answer(&rt, &buffer[..count])
 }

@@ -3,7 +3,7 @@ use Rattle.std.specs.Prelude.{◌≡◌, refl, ◌↔◌, Bool, cond, ◌&&◌, 
 use Rattle.std.proofs.Common.{sym, ◌∙◌, add-zero, add_assoc, arith, ltb→lt, lt→ltb, le→leb, lit<, lit≤, take-add, drop-cons, ext_get_or}
 use Rattle.std.proofs.Math.Path.{ap, ap₂, subst}
 use mathlib.Core.List.{List, ◌∷◌, ◌++◌}
-use Prim.Native.Nat.{ℕ, zero, suc, ◌+◌, ◌*◌, ◌-◌, ◌≤◌, ◌<◌}
+use Prim.Native.Nat.{ℕ, zero, suc, ◌+◌, ◌*◌, ◌≤◌, ◌<◌}
 use Rattle.std.proofs.Math.Nat.{mod-add-div}
 use Rattle.std.proofs.Math.Decide.{dec_lt}
 use Rattle.std.proofs.Math.Dec.{eqb-suc-zero, leb→le}

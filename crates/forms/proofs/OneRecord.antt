@@ -3,7 +3,7 @@ use Rattle.std.specs.Prelude.{◌≡◌, Bool, ◌&&◌, eqb, leb, length}
 use Rattle.std.proofs.Math.Path.{sym, ap, ap₂}
 use Rattle.std.proofs.Common.{◌∙◌, le→leb}
 use mathlib.Core.List.{List, ◌∷◌}
-use Prim.Native.Nat.{ℕ, suc, ◌+◌, ◌*◌, ◌-◌, ◌/◌, ◌%◌, ◌<◌}
+use Prim.Native.Nat.{ℕ, suc, ◌+◌, ◌*◌, ◌/◌, ◌%◌, ◌<◌}
 use Rattle.std.proofs.Math.Nat.{zero-add, add-mul-mod_self_left, add-mul-div_left, mod-eq_of_lt, div-eq_of_lt}
 use native.Mathlib.Omega.{arith}
 use Rattle.std.proofs.Math.Dec.{eqb→eq, leb→le}

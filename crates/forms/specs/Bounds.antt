@@ -1,6 +1,5 @@
 -- How many coefficients the definitions' polynomials have, their degrees, and which of their numbers are residues.
-use Rattle.std.specs.Prelude.{◌≡◌, ℕ, ◌-◌, ◌≤◌}
-use Rattle.forms.specs.Numbers.{at}
+use Rattle.std.specs.Prelude.{◌≡◌, ℕ, ◌≤◌}
 use Rattle.forms.specs.Polynomials.{Coefficients}
 use Rattle.forms.specs.Matrices.{PolynomialEntries}
 

@@ -1,7 +1,5 @@
 -- The closed forms satisfy rules 4 to 6: P and PI are inverse to each other, so are Q and QI, and P(XE_A)Q = D, over F_p[X].
 use Rattle.std.specs.Prelude.{ℕ}
-use Rattle.algebra.specs.Shapes.{diagonal}
-use Rattle.algebra.specs.Characteristic.{characteristic}
 use Rattle.forms.specs.Polynomials.{Coefficients}
 use Rattle.forms.specs.Matrices as definitions
 use Rattle.forms.specs.Matrices.{Entries, PolynomialEntries, polynomial_unit, diagonal_matrix, polynomial_product}

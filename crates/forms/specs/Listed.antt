@@ -1,6 +1,6 @@
 -- A payload and its entries: entries are listed row by row, and payloads of residues with the same entries are the same.
 use Rattle.std.specs.Prelude.{List, [], ◌∷◌, ℕ, zero, suc, ◌*◌, ◌/◌, ◌%◌}
-use Rattle.forms.specs.Matrices.{Entries, PolynomialEntries, matrix}
+use Rattle.forms.specs.Matrices.{Entries, PolynomialEntries}
 
 -- f 0 ∷ .. ∷ f (z-1)
 unfoldable pub listed : ℕ → (ℕ → ℕ) → List ℕ

@@ -1,7 +1,7 @@
 -- One record: what its reading has seen where it refuses nothing, and the bytes that it then has.
 use Rattle.std.specs.Prelude.{◌≡◌, cond, eqb, ltb, length}
 use mathlib.Core.List.{List}
-use Prim.Native.Nat.{ℕ, suc, ◌+◌, ◌*◌, ◌-◌, ◌≤◌, ◌<◌}
+use Prim.Native.Nat.{ℕ, suc, ◌+◌, ◌*◌, ◌≤◌, ◌<◌}
 use Rattle.forms.specs.Numbers.{at}
 use Rattle.forms.specs.Answers.{Asked, fine, ask, each}
 use Rattle.forms.specs.Certificate.{mark, size, offset}

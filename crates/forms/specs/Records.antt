@@ -1,5 +1,5 @@
 -- Records one after the other: their marks and lengths, the bytes of each, and where each starts.
-use Rattle.std.specs.Prelude.{List, ◌∷◌, ℕ, ◌-◌, ◌/◌, ◌%◌, length}
+use Rattle.std.specs.Prelude.{List, ◌∷◌, ℕ, ◌/◌, ◌%◌}
 use Rattle.forms.specs.Numbers.{at}
 use Rattle.forms.specs.Certificate.{mark, size}
 

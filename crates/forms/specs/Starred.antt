@@ -1,9 +1,8 @@
 -- The starred matrices of document 01 as one table under one statement: p, n, A, D, F and the lead are as the document prints.
 -- A certificate of each stands beside the table; one computed test over both turns into the statement.
 use Rattle.std.specs.Prelude.{◌≡◌, List, [], ◌∷◌, ℕ}
-use Rattle.forms.specs.Answers.{each}
 use Rattle.forms.specs.Matrices.{diagonal}
-use Rattle.forms.specs.Frobenius.{blocks, lead}
+use Rattle.forms.specs.Frobenius.{lead}
 use Rattle.forms.specs.Certificate.{Certificate}
 use Rattle.forms.specs.Words.{Certified, LaidOut}
 

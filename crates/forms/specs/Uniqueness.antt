@@ -1,7 +1,7 @@
 -- Two certificates of one matrix have the same D and F, byte by byte: the Smith form of XE_A with monic entries is unique, and F is
 -- built from it.
 use Rattle.std.specs.Prelude.{ℕ, suc, ◌*◌, ◌≤◌}
-use Rattle.algebra.specs.Modular.{modulo, Prime}
+use Rattle.algebra.specs.Modular.{Prime}
 use Rattle.forms.specs.Certificate.{Certificate}
 use Rattle.forms.specs.Words.{Residues}
 

@@ -1,7 +1,6 @@
 -- The walk: the loop x' = A x modulo p and its rewriting y' = F y pass through the same states, T y for y, at every step.
 use Rattle.std.specs.Prelude.{List}
 use Prim.Native.Nat.{ℕ, zero, suc, ◌*◌, ◌%◌}
-use Rattle.algebra.specs.Modular.{modulo}
 use Rattle.forms.specs.Numbers.{at, total}
 use Rattle.forms.specs.Matrices.{matrix}
 use Rattle.forms.specs.Listed.{listed}

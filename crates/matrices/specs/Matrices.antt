@@ -1,5 +1,5 @@
 -- Field matrices by value: lists of rows as vectors and matrices modulo p, and which lists are field matrices of order n.
-use Rattle.std.specs.Prelude.{◌≡◌, refl, List, [], ℕ, zero, ◌≤◌, ◌<◌, length, get_or, replicate}
+use Rattle.std.specs.Prelude.{◌≡◌, refl, List, [], ℕ, ◌≤◌, ◌<◌, length, get_or, replicate}
 use Rattle.std.proofs.Common.{sym, ◌∙◌, ap, arith, ext_get_or}
 use Rattle.std.proofs.Math.Decide.{dec_lt}
 use Rattle.std.proofs.lemmas.List.{get_or-replicate, length-replicate}

@@ -1,5 +1,5 @@
 -- Six divisions tell the primes from 2 to 251 from the other numbers.
-use Rattle.std.specs.Prelude.{Bool, not, ◌&&◌, ◌||◌, ℕ, ◌-◌, ◌%◌, eqb, leb}
+use Rattle.std.specs.Prelude.{Bool, not, ◌&&◌, ◌||◌, ℕ, ◌%◌, eqb, leb}
 
 -- p is d, or d does not divide it
 abbrev pub passes : ℕ → ℕ → Bool

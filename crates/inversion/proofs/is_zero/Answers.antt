@@ -1,5 +1,5 @@
 -- The rows passed are zero.
-use Rattle.std.proofs.Common.{◌-◌, sym, ◌∙◌, true, le_antisymm, rules}
+use Rattle.std.proofs.Common.{sym, ◌∙◌, le_antisymm, rules}
 use Rattle.matrices.specs.Filling.{every_start, every_turn, every_fails}
 use Rattle.inversion.specs.Zeros.{is_zero}
 use Rattle.inversion.proofs.is_zero.Goals as goal

@@ -1,5 +1,5 @@
 -- The entries passed are zero.
-use Rattle.std.proofs.Common.{◌-◌, sym, true, le_antisymm, rules, eq-eqb, ne_eqb}
+use Rattle.std.proofs.Common.{sym, le_antisymm, rules, eq-eqb, ne_eqb}
 use Rattle.matrices.specs.Filling.{every_start, every_turn, every_fails}
 use Rattle.inversion.proofs.is_zero_row.Goals as goal
 

@@ -1,5 +1,5 @@
 -- The entries passed are zero.
-use Rattle.std.proofs.Common.{◌-◌, arith, rules}
+use Rattle.std.proofs.Common.{arith, rules}
 use native.Mathlib.Decide.{ℕ_discrete}
 use Rattle.inversion.proofs.pivot.Goals as goal
 

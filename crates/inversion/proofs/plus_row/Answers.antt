@@ -1,5 +1,5 @@
 -- The row is filled from the front.
-use Rattle.std.proofs.Common.{◌-◌, rules}
+use Rattle.std.proofs.Common.{rules}
 use Rattle.matrices.specs.Filling.{fill_start, fill_turn, fill_end}
 use Rattle.inversion.proofs.plus_row.Goals as goal
 

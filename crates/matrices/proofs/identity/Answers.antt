@@ -1,5 +1,5 @@
 -- The rows are filled from the front: each is still zero where its 1 is set.
-use Rattle.std.proofs.Common.{ℕ, ◌-◌, ◌∙◌, ap, List, [], rules, get_or, set}
+use Rattle.std.proofs.Common.{ℕ, ◌∙◌, ap, List, [], rules, get_or, set}
 use lib.ListN.{get_or-replicate}
 use Rattle.forms.specs.Numbers.{order_limit}
 use Rattle.matrices.specs.Filling.{fill_start, fill_turn, fill_end, filled_outside}

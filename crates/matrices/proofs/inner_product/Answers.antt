@@ -1,5 +1,5 @@
 -- The sum is at most 255 * 255 for each turn, so that it fits.
-use Rattle.std.proofs.Common.{ℕ, ◌+◌, ◌*◌, ◌-◌, ap₂, mul-le-mul, mod-lt, le_antisymm, arith, rules}
+use Rattle.std.proofs.Common.{ℕ, ◌+◌, ◌*◌, ap₂, mul-le-mul, mod-lt, le_antisymm, arith, rules}
 use Rattle.forms.specs.Numbers.{total}
 use Rattle.matrices.specs.Filling.{total_turn}
 use Rattle.matrices.proofs.inner_product.Goals as goal

@@ -1,8 +1,8 @@
 -- The rows are filled from the front.
-use Rattle.std.proofs.Common.{◌-◌, rules}
+use Rattle.std.proofs.Common.{rules}
 use Rattle.matrices.specs.Filling.{fill_start, fill_turn, fill_end}
 use Rattle.matrices.specs.Matrices.{zero_rows}
-use Rattle.matrices.specs.Products.{product_row, product_multiplies}
+use Rattle.matrices.specs.Products.{product_multiplies}
 use Rattle.matrices.proofs.product.Goals as goal
 
 pub loop-i-init : goal.loop-i-init
