@@ -12,7 +12,7 @@ use Rattle.forms.specs.Reciprocals.{InverseOf}
 use Rattle.polynomials.specs.declared.Polynomial.{Polynomial}
 use Rattle.polynomials.specs.declared.Division.{Division}
 use Rattle.polynomials.specs.Monomials.{monomial, monomial_same, monomial_other}
-use Rattle.polynomials.specs.Canonical.{coefficient_limit, polynomial_of, polynomial_of_at, polynomial, Canonical, trimmed_upto}
+use Rattle.polynomials.specs.Canonical.{coefficient_limit, polynomial_of, polynomial_of_at, Canonical, trimmed_upto}
 use Rattle.polynomials.specs.Taking.{TrimmedFrom, zeros, zeros_at}
 use Rattle.polynomials.specs.Subtraction.{Lessened, lessened_inside, lessened_small, lessened_polynomial}
 use Rattle.polynomials.specs.LongDivision.{Divided, Dividing}

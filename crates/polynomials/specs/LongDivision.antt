@@ -1,20 +1,11 @@
 -- Long division: what a quotient and a remainder are, and what the loop keeps until it has them.
-use Rattle.std.specs.Prelude.{◌≡◌, refl, List, ℕ, ◌+◌, ◌*◌, ◌-◌, ◌%◌, ◌≤◌, ◌<◌, length, set}
-use Rattle.std.proofs.Common.{sym, ◌∙◌, ap, ap₂, subst, zero-add, mod-lt, mod-eq_of_lt, arith, length-set, get_or-set_same, get_or-set_other}
-use Rattle.std.proofs.Math.Decide.{ℕ_discrete}
-use Rattle.std.proofs.lemmas.List.{length-replicate}
-use Rattle.algebra.specs.Ring.{zero_plus, plus_zero, zero_times, times_one, times_associative, times_commutative, plus_minus}
-use Rattle.algebra.specs.Solver.{◌:+◌, ◌:*◌, :-◌, solve₄}
-use Rattle.algebra.specs.Polynomial.{polynomials, polynomial_equal, plus_coefficient, zero_coefficient}
-use Rattle.algebra.specs.Modular.{Prime, positive, residue, modulo, residue_zero, residue_one, residue_times, residue_remainder, residue_equal, residue_injective}
+use Rattle.std.specs.Prelude.{◌≡◌, List, ℕ, ◌+◌, ◌≤◌, ◌<◌, length}
+use Rattle.algebra.specs.Polynomial.{polynomials}
+use Rattle.algebra.specs.Modular.{modulo}
 use Rattle.forms.specs.Numbers.{at}
-use Rattle.forms.specs.Reciprocals.{InverseOf}
 use Rattle.polynomials.specs.declared.Polynomial.{Polynomial}
 use Rattle.polynomials.specs.declared.Division.{Division}
-use Rattle.polynomials.specs.Monomials.{monomial, monomial_same, monomial_other}
-use Rattle.polynomials.specs.Canonical.{coefficient_limit, polynomial_of, polynomial_of_at, polynomial, Canonical, trimmed_upto}
-use Rattle.polynomials.specs.Taking.{TrimmedFrom, zeros, zeros_at}
-use Rattle.polynomials.specs.Subtraction.{Lessened, lessened_inside, lessened_small, lessened_polynomial}
+use Rattle.polynomials.specs.Canonical.{coefficient_limit, polynomial_of, polynomial, Canonical}
 
 module _ (p : ℕ) where
   open modulo p use {plus as ◌⊕◌, times as ◌⊗◌, minus as ⊖◌, zero as 𝟘, one as 𝟙}

@@ -1,5 +1,5 @@
 -- The loop: none of the records passed has this mark.
-use Rattle.std.proofs.Common.{rules, arith, sym, ◌∙◌, ◌-◌, below_none, below_more}
+use Rattle.std.proofs.Common.{rules, arith, sym, ◌∙◌, below_none, below_more}
 use Rattle.finding.specs.Found.{marked_here, not_marked_here, marked_nowhere, not_two_bytes}
 use Rattle.finding.proofs.record_marked.Goals as goal
 

@@ -1,5 +1,5 @@
 -- `polynomials::from_coefficients` meets its contract: after i turns i bytes are copied.
-use Rattle.std.proofs.Common.{◌-◌, le_antisymm, arith, rules}
+use Rattle.std.proofs.Common.{le_antisymm, arith, rules}
 use Rattle.polynomials.specs.Taking.{copied_start, copied_turn, taken}
 use Rattle.polynomials.proofs.from_coefficients.Goals as goal
 

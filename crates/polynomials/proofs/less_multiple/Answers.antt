@@ -1,5 +1,5 @@
 -- `polynomials::less_multiple` meets its contract: after i turns the first i coefficients of f have been dealt with.
-use Rattle.std.proofs.Common.{◌-◌, ◌≡◌, le_antisymm, arith, length, rules}
+use Rattle.std.proofs.Common.{◌≡◌, le_antisymm, arith, length, rules}
 use Rattle.polynomials.specs.Canonical.{coefficient_limit}
 use Rattle.polynomials.specs.Subtraction.{lessened_start, lessened_turn}
 use Rattle.polynomials.proofs.less_multiple.Goals as goal

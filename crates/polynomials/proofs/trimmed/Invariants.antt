@@ -1,5 +1,5 @@
 -- `polynomials::trimmed` meets its contract: from `len` on every coefficient is zero.
-use Rattle.std.proofs.Common.{◌≡◌, ℕ, ◌-◌, ◌≤◌, length}
+use Rattle.std.proofs.Common.{◌≡◌, ℕ, ◌≤◌, length}
 use Rattle.forms.specs.Numbers.{at}
 use Rattle.polynomials.specs.Canonical.{coefficient_limit}
 use Rattle.polynomials.proofs.trimmed.Given as goal

@@ -1,5 +1,5 @@
 -- The loop: the first i bytes are put.
-use Rattle.std.proofs.Common.{rules, arith, refl, ◌∙◌, ◌+◌, ◌-◌, ◌<◌, le_antisymm, add-one, length, length-set}
+use Rattle.std.proofs.Common.{rules, arith, refl, ◌∙◌, ◌+◌, ◌<◌, le_antisymm, add-one, length, length-set}
 use lib.Seq.{paste-zero, paste-suc}
 use Rattle.writing.specs.Put.{paste_is_put}
 use Rattle.writing.proofs.put_bytes.Goals as goal

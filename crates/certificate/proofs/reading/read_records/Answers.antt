@@ -1,5 +1,5 @@
 -- The loop: the first k records refuse nothing, and the cursor stands where record k starts.
-use Rattle.std.proofs.Common.{rules, arith, refl, sym, ◌∙◌, ap, ap₂, ℕ, ◌+◌, ◌-◌}
+use Rattle.std.proofs.Common.{rules, arith, refl, sym, ◌∙◌, ap, ap₂, ℕ, ◌+◌}
 use Rattle.forms.specs.Numbers.{at}
 use Rattle.forms.specs.Answers.{each}
 use Rattle.forms.specs.Certificate.{offset}

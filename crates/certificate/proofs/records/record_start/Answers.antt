@@ -1,5 +1,5 @@
 -- The loop: start is where record i starts.
-use Rattle.std.proofs.Common.{rules, arith, sym, ◌∙◌, ap, ap₂, ℕ, ◌+◌, ◌-◌}
+use Rattle.std.proofs.Common.{rules, arith, sym, ◌∙◌, ap, ap₂, ℕ, ◌+◌}
 use Rattle.forms.specs.Certificate.{offset}
 use Rattle.certificate.specs.Sizes.{offset_zero, offset_next, offset_small, size_small}
 use Rattle.certificate.proofs.records.record_start.Goals as goal
