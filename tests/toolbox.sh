@@ -34,30 +34,44 @@ compilers_for() {
 }
 
 # kit_tool NAME: the kit's own clang or llvm-ar, the ones that can read its modules.
-kit_tool() { echo "$(kit_home)/on/$(uname -m)/toolchain/bin/$1"; }
+kit_tool() { echo "$(kit_home)/toolchain/bin/$1"; }
 
 # kit_home: the kit's folder.
-kit_home() { echo "${RATTLE_HOME:-$(dirname "$(dirname "$(readlink -f "$(command -v rt)")")")}"; }
+kit_home() { dirname "$(dirname "$(readlink -f "$(command -v rt)")")"; }
 
-# archive LOG: `rt staticlib blocks`, whose words are shown where it fails. It writes target/staticlib/libblocks.a.
-archive() { rt staticlib blocks > "$1" 2>&1 || { cat "$1"; return 1; }; }
+# quietly LOG COMMAND..: runs the command, and shows its words where it fails.
+quietly() { "${@:2}" > "$1" 2>&1 < /dev/null || { cat "$1"; return 1; }; }
 
-# proved_module FOLDER: writes FOLDER/blocks.ll, the LLVM module of the proved crate blocks that `rt staticlib blocks` compiles,
-# without the words that tie it to one machine. rt takes the compiler from the kit's folder, so it is given one that differs in this:
-# its clang keeps what it is asked to compile. The archive that comes out must be the kit's own, byte for byte.
+# program NAME LOG: proves and builds the program crates/NAME, and leaves it at target/bin/NAME.
+program() {
+    mkdir -p target/bin
+    (cd "crates/$1" && quietly "$2" rt run)
+    cp "crates/$1/out/$1" "target/bin/$1"
+}
+
+# archive LOG [RT]: proves and builds the static library blocks_c, and leaves it at target/staticlib/libblocks.a.
+archive() {
+    mkdir -p target/staticlib
+    (cd crates/blocks_c && rm -f out/libblocks_c.a && quietly "$1" "${2:-rt}" lib)
+    cp crates/blocks_c/out/libblocks_c.a target/staticlib/libblocks.a
+}
+
+# proved_module FOLDER: writes FOLDER/blocks.ll, the LLVM module of the proved crate blocks_c that `rt lib` compiles, without the words
+# that tie it to one machine. rt takes the compiler from the kit's folder, so it is given one that differs in this: its clang keeps what
+# it is asked to compile. The archive that comes out must be the kit's own, byte for byte.
 proved_module() {
-    local home own like part
-    home=$(kit_home) own=on/$(uname -m) like=$1/kit
-    mkdir -p "$like/$own/toolchain/bin"
-    for part in "$home"/*; do [ "$(basename "$part")" = on ] || ln -s "$part" "$like/"; done
-    for part in "$home/$own"/*; do [ "$(basename "$part")" = toolchain ] || ln -s "$part" "$like/$own/"; done
-    for part in "$home/$own/toolchain"/*; do [ "$(basename "$part")" = bin ] || ln -s "$part" "$like/$own/toolchain/"; done
-    for part in "$home/$own/toolchain/bin"/*; do [ "$(basename "$part")" = clang ] || ln -s "$part" "$like/$own/toolchain/bin/"; done
-    keeping_clang "$1/blocks.bc" > "$like/$own/toolchain/bin/clang"
-    chmod +x "$like/$own/toolchain/bin/clang"
+    local home like=$1/kit part
+    home=$(kit_home)
+    mkdir -p "$like/bin" "$like/toolchain/bin"
+    for part in "$home"/*; do case ${part##*/} in bin | toolchain) ;; *) ln -s "$part" "$like/" ;; esac; done
+    for part in "$home/bin"/*; do case ${part##*/} in rt | rtlib.py) cp "$part" "$like/bin/" ;; *) ln -s "$part" "$like/bin/" ;; esac; done
+    for part in "$home/toolchain"/*; do [ "${part##*/}" = bin ] || ln -s "$part" "$like/toolchain/"; done
+    for part in "$home/toolchain/bin"/*; do [ "${part##*/}" = clang ] || ln -s "$part" "$like/toolchain/bin/"; done
+    keeping_clang "$1/blocks.bc" > "$like/toolchain/bin/clang"
+    chmod +x "$like/toolchain/bin/clang"
     archive "$1/log"
     cp target/staticlib/libblocks.a "$1/archive"
-    RATTLE_HOME=$like archive "$1/log"
+    archive "$1/log" "$like/bin/rt"
     cmp "$1/archive" target/staticlib/libblocks.a
     "$(kit_tool clang)" -S -emit-llvm -Xclang -disable-llvm-passes -x ir "$1/blocks.bc" -o - \
         | sed -e '/^target /d' -e 's/"target-cpu"="[^"]*"//' > "$1/blocks.ll"

@@ -1,5 +1,5 @@
 -- The state in code: B, T and the inverse of T, field matrices by value, as a frame modulo p.
-use Rattle.std.specs.Prelude.{◌≡◌, ◌≢◌, List, [], ℕ, zero, ◌+◌, ◌*◌, ◌%◌, ◌≤◌, ◌<◌, T, length, get_or, set}
+use Rattle.std.specs.Prelude.{◌≡◌, ◌≢◌, List, [], ℕ, ◌+◌, ◌*◌, ◌%◌, ◌≤◌, ◌<◌, T, length, get_or, set}
 use Rattle.std.proofs.Common.{sym, ◌∙◌, ap, ap₂, mod-lt, mod-eq_of_lt, zero-add, mul-zero, arith, get_or-set_same, get_or-set_other}
 use Rattle.std.proofs.Math.Path.{fun_ext}
 use Rattle.std.proofs.Math.Nat.{zero-mod}

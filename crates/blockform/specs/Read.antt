@@ -1,5 +1,5 @@
 -- What the program knows of its input once HD and MA are read, and of the room for the certificate.
-use Rattle.std.specs.Prelude.{◌≡◌, List, ℕ, suc, ◌+◌, ◌*◌, ◌-◌, ◌≤◌, ◌<◌, leb, length, drop}
+use Rattle.std.specs.Prelude.{◌≡◌, List, ℕ, suc, ◌+◌, ◌*◌, ◌≤◌, ◌<◌, leb, length, drop}
 use Rattle.std.proofs.Common.{◌∙◌, add-one, arith, lit<}
 use Rattle.std.proofs.Math.ListN.{length-take, length-drop}
 use Rattle.forms.specs.Numbers.{at, order_limit}

@@ -1,8 +1,6 @@
 // The four public operations. Each promise is one record of forms, and none asks anything of its caller.
 #![tactic(auto)]
 
-pub mod c; // the same for C: numbers and places
-
 ghost use Rattle.forms.specs.Operations.{Analyses, Checks, Finds};
 ghost use Rattle.forms.specs.Reciprocals.{Reciprocates};
 

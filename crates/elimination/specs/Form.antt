@@ -1,6 +1,6 @@
 -- The form that the elimination builds from the back: companion blocks along the diagonal, each polynomial dividing the next; in front of them
 -- a window that the polynomial of the first block kills. One more block is found in the window and brought to its end.
-use Rattle.std.specs.Prelude.{◌≡◌, refl, ℕ, zero, suc, ◌+◌, ◌-◌, ◌≤◌, ◌<◌}
+use Rattle.std.specs.Prelude.{◌≡◌, refl, ℕ, suc, ◌+◌, ◌-◌, ◌≤◌, ◌<◌}
 use Rattle.std.proofs.Math.Path.{sym, ap, ap₂, fun_ext, subst}
 use Rattle.std.proofs.Common.{◌∙◌, arith}
 use mathlib.Core.List.{List, [], ◌∷◌}

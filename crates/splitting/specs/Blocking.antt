@@ -1,5 +1,5 @@
 -- The growing block in code: what its steps say of the state.
-use Rattle.std.specs.Prelude.{◌≡◌, ◌≢◌, List, [], ℕ, zero, suc, ◌+◌, ◌-◌, ◌≤◌, ◌<◌, get_or, set}
+use Rattle.std.specs.Prelude.{◌≡◌, ◌≢◌, List, [], ℕ, suc, ◌+◌, ◌-◌, ◌≤◌, ◌<◌, get_or, set}
 use Rattle.std.proofs.Common.{sym, ◌∙◌, ap, ap₂, subst, add-one, arith, length-set, get_or-set_same, get_or-set_other}
 use Rattle.std.proofs.Math.Decide.{dec_lt, ℕ_discrete}
 use Rattle.std.proofs.lemmas.List.{length-replicate}

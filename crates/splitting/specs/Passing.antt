@@ -1,5 +1,5 @@
 -- The pass in code: what its steps say of the state.
-use Rattle.std.specs.Prelude.{◌≡◌, ◌≢◌, List, [], ℕ, zero, suc, ◌+◌, ◌≤◌, ◌<◌, get_or}
+use Rattle.std.specs.Prelude.{◌≡◌, ◌≢◌, List, [], ℕ, suc, ◌+◌, ◌≤◌, ◌<◌, get_or}
 use Rattle.std.proofs.Common.{sym, ◌∙◌, ap, ap₂, subst, add-one, arith}
 use Rattle.std.proofs.Math.Decide.{ℕ_discrete}
 use Rattle.algebra.specs.Modular.{modulo}

@@ -1,6 +1,6 @@
 -- The shapes that a pass makes and keeps: columns e_1, e_2, .., the rows of a companion block, and rows with something just below the
 -- diagonal that the pass has not reached yet.
-use Rattle.std.specs.Prelude.{◌≡◌, refl, ◌≢◌, ℕ, zero, suc, ◌≤◌, ◌<◌}
+use Rattle.std.specs.Prelude.{◌≡◌, refl, ◌≢◌, ℕ, suc, ◌≤◌, ◌<◌}
 use Rattle.std.proofs.Common.{◌∙◌, subst, arith}
 use Rattle.std.proofs.Math.Decide.{ℕ_discrete}
 use Rattle.algebra.specs.Ring.{Ring}

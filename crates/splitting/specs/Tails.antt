@@ -1,5 +1,5 @@
 -- A row's entries from m on with the other sign.
-use Rattle.std.specs.Prelude.{◌≡◌, List, ℕ, zero, ◌-◌, ◌%◌, ◌≤◌, ◌<◌, get_or}
+use Rattle.std.specs.Prelude.{◌≡◌, List, ℕ, ◌-◌, ◌%◌, ◌≤◌, ◌<◌, get_or}
 use Rattle.std.proofs.Common.{◌∙◌, ap, mod-lt, arith}
 use Rattle.std.proofs.Math.Decide.{dec_lt}
 use Rattle.algebra.specs.Choice.{below, below_inside, below_outside}

@@ -1,8 +1,5 @@
 -- The elimination and the tables of its blocks give a certificate, and its layout is what the records are.
-use Rattle.std.proofs.Common.{◌≡◌, ℕ, List, subst}
-use Rattle.forms.specs.Words.{LaidOut, Certified}
 use Rattle.forms.proofs.Primes.{prime_positive}
-use Rattle.basis.specs.State.{Array}
 use Rattle.elimination.specs.Reduced.{Reduced}
 use Rattle.matrices.specs.Loading.{loaded, loaded_field}
 use Rattle.analysis.specs.Loading.{loaded_holds}

@@ -1,5 +1,5 @@
 -- The loop, from the back: the rows from i on have the ends of their blocks, and `next` is that of row i.
-use Rattle.std.proofs.Common.{◌≡◌, length, ◌≤◌, ◌<◌, ◌-◌}
+use Rattle.std.proofs.Common.{◌≡◌, length, ◌≤◌, ◌<◌}
 use Rattle.forms.specs.Numbers.{order_limit}
 use Rattle.heads.specs.Heads.{LastRow, LastRows}
 use Rattle.heads.proofs.last_rows.Given as goal

@@ -1,5 +1,5 @@
 -- The loop: the first i rows stand at their places.
-use Rattle.std.proofs.Common.{rules, arith, sym, subst, ℕ, ◌-◌, length-set}
+use Rattle.std.proofs.Common.{rules, arith, sym, subst, ℕ, length-set}
 use lib.ListN.{length-replicate}
 use Rattle.forms.specs.Numbers.{order_limit}
 use Rattle.matrices.specs.Filling.{total_turn}

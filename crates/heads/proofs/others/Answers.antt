@@ -1,5 +1,5 @@
 -- The loop: `count` of the first i rows begin no block.
-use Rattle.std.proofs.Common.{rules, arith, sym, ◌∙◌, ap, ◌-◌}
+use Rattle.std.proofs.Common.{rules, arith, sym, ◌∙◌, ap}
 use Rattle.matrices.specs.Filling.{total_turn}
 use Rattle.heads.specs.Heads.{no_others, other_most, others_most, others}
 use Rattle.heads.proofs.others.Goals as goal

@@ -1,5 +1,5 @@
 -- Zeros are put for the whole line, and over them the first c entries.
-use Rattle.std.proofs.Common.{rules, arith, ◌≡◌, refl, sym, ℕ, ◌*◌, ◌-◌, mul-le-mul, length, take, replicate, length-take-le}
+use Rattle.std.proofs.Common.{rules, arith, ◌≡◌, refl, sym, ℕ, ◌*◌, mul-le-mul, length, take, replicate, length-take-le}
 use Rattle.forms.specs.Numbers.{order_limit}
 use Rattle.forms.specs.Listed.{listed}
 use Rattle.forms.proofs.Listed.{listed_length, row_place}

@@ -1,5 +1,5 @@
 -- The loop: the first i rows are put.
-use Rattle.std.proofs.Common.{rules, arith, ◌≡◌, refl, sym, ◌∙◌, ap, ◌-◌, length, take, get_or, length-take-le}
+use Rattle.std.proofs.Common.{rules, arith, ◌≡◌, refl, sym, ◌∙◌, ap, length, take, get_or, length-take-le}
 use Rattle.forms.specs.Listed.{listed}
 use Rattle.forms.proofs.Listed.{listed_length}
 use Rattle.writing.specs.Put.{puts_bytes}

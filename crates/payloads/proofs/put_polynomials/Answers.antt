@@ -1,5 +1,5 @@
 -- The loop: the first r rows of n entries are put.
-use Rattle.std.proofs.Common.{ℕ, List, ◌+◌, ◌*◌, ◌≤◌, length, rules, arith, refl, ◌-◌, mul_assoc}
+use Rattle.std.proofs.Common.{ℕ, List, ◌+◌, ◌*◌, ◌≤◌, length, rules, arith, refl, mul_assoc}
 use Rattle.forms.specs.Listed.{listed}
 use Rattle.forms.proofs.Listed.{listed_length}
 use Rattle.forms.specs.Certificate.{joined}

@@ -1,6 +1,6 @@
 -- The loop: the first k records are put, and `at` is where record k starts.
-use Rattle.std.proofs.Common.{rules, arith, ◌≡◌, refl, ◌∙◌, ap, subst, ℕ, ◌-◌}
-use Rattle.forms.specs.Certificate.{size, offset}
+use Rattle.std.proofs.Common.{rules, arith, ◌≡◌, refl, ◌∙◌, ap, subst, ℕ}
+use Rattle.forms.specs.Certificate.{offset}
 use Rattle.certificate.specs.Sizes.{offset_zero}
 use Rattle.writing.specs.Written.{RecordsPut, no_record_put, certificate_put}
 use Rattle.payloads.specs.Written.{written, written_order, written_length}

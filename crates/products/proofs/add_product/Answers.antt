@@ -1,5 +1,5 @@
 -- f g is summed coefficient by coefficient of f; a zero coefficient adds nothing.
-use Rattle.std.proofs.Common.{sym, ◌∙◌, ◌-◌, rules, arith}
+use Rattle.std.proofs.Common.{sym, ◌∙◌, rules, arith}
 use Rattle.products.specs.Sums.{coefficients, coefficients_inside, coefficients_outside, coefficients_small, products_none, products_more, products_skip, products_low, products_all}
 use Rattle.products.proofs.add_product.Goals as goal
 use Rattle.products.proofs.add_product.Goals.{then-x-ne0, else-x-ne0}

@@ -1,5 +1,5 @@
 -- f times row l is added coefficient by coefficient of f; a zero coefficient adds nothing.
-use Rattle.std.proofs.Common.{sym, ◌∙◌, ◌-◌, rules, arith}
+use Rattle.std.proofs.Common.{sym, ◌∙◌, rules, arith}
 use Rattle.forms.specs.Matrices.{polynomial_matrix}
 use Rattle.products.specs.Sums.{coefficients, coefficients_inside, coefficients_outside, coefficients_small}
 use Rattle.products.specs.Products.{matrix_bytes}

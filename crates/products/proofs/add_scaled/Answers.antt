@@ -1,5 +1,5 @@
 -- The multiple is added coefficient by coefficient from the front, and no sum overflows.
-use Rattle.std.proofs.Common.{◌+◌, ◌-◌, mul-le-mul, le_antisymm, rules, arith}
+use Rattle.std.proofs.Common.{◌+◌, mul-le-mul, le_antisymm, rules, arith}
 use Rattle.products.specs.Sums.{scaled_none, scaled_ahead, scaled_more}
 use Rattle.products.proofs.add_scaled.Goals as goal
 

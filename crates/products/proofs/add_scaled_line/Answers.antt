@@ -1,5 +1,5 @@
 -- The multiple of row l is added entry by entry from the front.
-use Rattle.std.proofs.Common.{◌-◌, rules, arith}
+use Rattle.std.proofs.Common.{rules, arith}
 use Rattle.products.specs.Products.{entry_coefficients}
 use Rattle.products.specs.Lines.{line_none, line_more, line_all, line_ahead}
 use Rattle.products.proofs.add_scaled_line.Goals as goal

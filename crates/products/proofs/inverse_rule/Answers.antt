@@ -1,5 +1,5 @@
 -- Rows and columns are searched up to the first entry that is not that of E.
-use Rattle.std.proofs.Common.{◌∙◌, true, suc, ◌*◌, ◌-◌, rules}
+use Rattle.std.proofs.Common.{◌∙◌, suc, ◌*◌, rules}
 use Rattle.forms.specs.Matrices.{polynomial_matrix, polynomial_product}
 use Rattle.matrices.specs.Filling.{every_start, every_turn}
 use Rattle.products.specs.Products.{unit_test}

@@ -1,5 +1,5 @@
 -- The coefficients are tested from the front, up to the first that differs modulo p.
-use Rattle.std.proofs.Common.{sym, ◌∙◌, ◌-◌, true, rules, arith}
+use Rattle.std.proofs.Common.{sym, ◌∙◌, rules, arith}
 use Rattle.products.specs.Searches.{every_all}
 use Rattle.matrices.specs.Filling.{every_start, every_turn, every_fails}
 use Rattle.products.proofs.is_equal.Goals as goal

@@ -1,5 +1,5 @@
 -- The coefficients are tested from the front, up to the first that is not that of E modulo p.
-use Rattle.std.proofs.Common.{sym, ◌∙◌, ap, true, ℕ, ◌-◌, ◌%◌, eqb, rules, arith}
+use Rattle.std.proofs.Common.{sym, ◌∙◌, ap, ℕ, ◌%◌, eqb, rules, arith}
 use Rattle.forms.specs.Numbers.{at}
 use Rattle.matrices.specs.Filling.{every_start, every_turn, every_fails}
 use Rattle.products.specs.Searches.{every_all}

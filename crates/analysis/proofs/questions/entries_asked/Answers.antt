@@ -1,5 +1,5 @@
 -- The loop: the first i entries refuse nothing.
-use Rattle.std.proofs.Common.{rules, arith, refl, sym, ◌∙◌, ap, ℕ, ◌-◌, ◌≤◌, ◌<◌, le_antisymm, ltb, ltb→lt, lt→ltb}
+use Rattle.std.proofs.Common.{rules, arith, refl, sym, ◌∙◌, ap, ℕ, ◌≤◌, ◌<◌, le_antisymm, ltb, ltb→lt, lt→ltb}
 use Rattle.forms.specs.Numbers.{at}
 use Rattle.forms.specs.Answers.{ask, each}
 use Rattle.forms.proofs.Tests.{fine_ask, refuse_ask, each_fine, refuse_each}

@@ -1,5 +1,5 @@
 -- The rows of B and of T are overwritten with their sums with multiples of v.
-use Rattle.std.proofs.Common.{rules, ◌-◌, ◌≡◌, length}
+use Rattle.std.proofs.Common.{rules, ◌≡◌, length}
 use Rattle.basis.specs.Overwriting.{columns_pair, first_field, second_field, overwriting_start, overwriting_turn, overwriting_end}
 use Rattle.basis.specs.Changes.{columns_added}
 use Rattle.basis.proofs.Shapes.{squares}

@@ -1,5 +1,5 @@
 -- The row is filled with remainders; each sum of a byte and a product of two is below 2^24.
-use Rattle.std.proofs.Common.{rules, arith, ◌-◌, ◌∙◌, mul-le-mul}
+use Rattle.std.proofs.Common.{rules, arith, ◌∙◌, mul-le-mul}
 use Rattle.matrices.specs.Filling.{fill_start, fill_turn, fill_end}
 use Rattle.basis.proofs.steps.add_multiple.Goals as goal
 

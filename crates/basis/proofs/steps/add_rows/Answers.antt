@@ -1,5 +1,5 @@
 -- The rows of B and of the inverse are overwritten with their sums with multiples of one row; the multiple 0 leaves its row.
-use Rattle.std.proofs.Common.{rules, ◌-◌, ◌≡◌, [], length, get_or}
+use Rattle.std.proofs.Common.{rules, ◌≡◌, [], length, get_or}
 use Rattle.basis.specs.Overwriting.{rows_pair, overwriting_start, overwriting_turn, overwriting_left, overwriting_end}
 use Rattle.basis.specs.Steps.{row_without}
 use Rattle.basis.specs.Changes.{rows_added}

@@ -1,5 +1,5 @@
 -- The row is filled with the entries of the column.
-use Rattle.std.proofs.Common.{◌-◌, refl, rules}
+use Rattle.std.proofs.Common.{refl, rules}
 use Rattle.matrices.specs.Filling.{fill_start, fill_turn, fill_end}
 use Rattle.basis.proofs.steps.column.Goals as goal
 

@@ -1,5 +1,5 @@
 -- All entries passed are zero.
-use Rattle.std.proofs.Common.{◌-◌, rules, arith}
+use Rattle.std.proofs.Common.{rules, arith}
 use native.Mathlib.Decide.{ℕ_discrete}
 use Rattle.basis.proofs.steps.first_nonzero.Goals as goal
 

@@ -1,5 +1,5 @@
 -- The loop adds up products of two bytes, at most twelve of them.
-use Rattle.std.proofs.Common.{rules, arith, ◌-◌, ◌∙◌, mul-le-mul, le_antisymm}
+use Rattle.std.proofs.Common.{rules, arith, ◌∙◌, mul-le-mul, le_antisymm}
 use Rattle.forms.specs.Numbers.{total}
 use Rattle.matrices.specs.Filling.{total_turn}
 use Rattle.basis.proofs.steps.inner.Goals as goal

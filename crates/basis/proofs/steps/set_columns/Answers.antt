@@ -1,5 +1,5 @@
 -- One entry of each row of B and of T is overwritten with that of B w and T w.
-use Rattle.std.proofs.Common.{rules, ◌-◌, ◌≡◌, ap, [], length, get_or, set}
+use Rattle.std.proofs.Common.{rules, ◌≡◌, ap, [], length, get_or, set}
 use Rattle.basis.specs.Overwriting.{columns_pair, row_set, overwriting_start, overwriting_turn, overwriting_end}
 use Rattle.basis.specs.Changes.{columns_set}
 use Rattle.basis.proofs.Shapes.{squares}

@@ -1,5 +1,5 @@
 -- The first k coefficients are zero.
-use Rattle.std.proofs.Common.{below_more, sym, ◌-◌, arith}
+use Rattle.std.proofs.Common.{below_more, sym, arith}
 use Rattle.forms.specs.Numbers.{at}
 use Rattle.blockform.specs.Diagonal.{exponent_found}
 use Rattle.blockform.proofs.diagonal.exponent_of.Goals as goal

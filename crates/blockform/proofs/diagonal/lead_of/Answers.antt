@@ -1,5 +1,5 @@
 -- The sum of the exponents of the first i polynomials.
-use Rattle.std.proofs.Common.{◌≡◌, sym, ◌∙◌, ap, suc, ◌+◌, ◌-◌, arith}
+use Rattle.std.proofs.Common.{◌≡◌, sym, ◌∙◌, ap, suc, ◌+◌, arith}
 use Rattle.forms.specs.Polynomials.{exponent}
 use Rattle.forms.specs.Matrices.{diagonal}
 use Rattle.blockform.specs.Rows.{has_row}

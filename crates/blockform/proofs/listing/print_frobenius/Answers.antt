@@ -1,5 +1,5 @@
 -- Each row of F is inside.
-use Rattle.std.proofs.Common.{◌-◌, arith}
+use Rattle.std.proofs.Common.{arith}
 use Rattle.blockform.specs.Rows.{has_row}
 use Rattle.blockform.proofs.listing.print_frobenius.Goals as goal
 

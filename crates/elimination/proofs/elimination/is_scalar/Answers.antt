@@ -1,5 +1,5 @@
 -- All rows passed are those of a multiple of E.
-use Rattle.std.proofs.Common.{rules, arith, ℕ, ◌-◌, ◌≡◌, refl, sym, ◌∙◌, ap, subst, true≢false, List, get_or, set}
+use Rattle.std.proofs.Common.{rules, arith, ℕ, ◌≡◌, refl, sym, ◌∙◌, ap, subst, true≢false, List, get_or, set}
 use native.Mathlib.Decide.{ℕ_discrete}
 use Rattle.matrices.specs.Matrices.{cell, zero_row}
 use Rattle.elimination.proofs.elimination.is_scalar.Goals as goal

@@ -1,5 +1,5 @@
 -- The loop: the first k coefficients are filled in.
-use Rattle.std.proofs.Common.{◌<◌, rules, arith, ◌≡◌, ◌-◌}
+use Rattle.std.proofs.Common.{◌<◌, rules, arith, ◌≡◌}
 use Rattle.forms.specs.Numbers.{at}
 use Rattle.matrices.specs.Filling.{fill_start, fill_turn, fill_end}
 use Rattle.entries.specs.Coefficients.{D_entry}

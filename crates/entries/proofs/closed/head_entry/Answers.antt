@@ -1,6 +1,5 @@
 -- The sums are put as far as the block goes; the others are zero.
-use Rattle.std.proofs.Common.{rules, arith, refl, ◌-◌}
-use Rattle.entries.specs.Coefficients.{head_sum}
+use Rattle.std.proofs.Common.{rules, arith, refl}
 use Rattle.entries.specs.Entries.{head_sum_short}
 use Rattle.entries.specs.PutEntries.{coefficients_none, coefficients_more, coefficients_next, coefficients_end}
 use Rattle.entries.proofs.closed.head_entry.Goals as goal

@@ -1,7 +1,6 @@
 -- The sum so far is the leading term and the first s of the others.
 use Rattle.std.proofs.Common.{rules, arith, ◌≡◌, ◌∙◌, ◌-◌, mul-le-mul, le_antisymm}
 use Rattle.forms.specs.Numbers.{total}
-use Rattle.forms.specs.ClosedForms.{opposite}
 use Rattle.matrices.specs.Filling.{total_turn}
 use Rattle.entries.specs.Entries.{head_sum_is}
 use Rattle.entries.proofs.closed.head_sum.Goals as goal

@@ -1,5 +1,5 @@
 -- The coefficients are put as far as the block goes; the others are zero.
-use Rattle.std.proofs.Common.{rules, arith, refl, ◌-◌}
+use Rattle.std.proofs.Common.{rules, arith, refl}
 use Rattle.entries.specs.Entries.{P_inside, P_short}
 use Rattle.entries.specs.PutEntries.{coefficients_none, coefficients_more, coefficients_next, coefficients_end}
 use Rattle.entries.proofs.closed.p_entry.Goals as goal

@@ -1,5 +1,5 @@
 -- The rows are overwritten: two entries of each are exchanged.
-use Rattle.std.proofs.Common.{rules, ◌-◌, ◌≡◌, ◌∙◌, ap, length}
+use Rattle.std.proofs.Common.{rules, ◌≡◌, ◌∙◌, ap, length}
 use Rattle.forms.specs.Numbers.{order_limit}
 use Rattle.matrices.specs.Filling.{fill_start, fill_turn, fill_end}
 use Rattle.matrices.proofs.Shapes.{square}

@@ -1,5 +1,5 @@
 -- Nothing moves where m is k; elsewhere the rows of the three matrices are overwritten in the order of the table.
-use Rattle.std.proofs.Common.{rules, arith, ◌-◌, ◌≡◌, refl, length}
+use Rattle.std.proofs.Common.{rules, arith, ◌≡◌, refl, length}
 use Rattle.forms.specs.Numbers.{order_limit}
 use Rattle.basis.proofs.Shapes.{squares}
 use Rattle.ordering.specs.Orders.{in_order_equal}

@@ -1,5 +1,5 @@
 -- The table is filled with the places that the rotation takes.
-use Rattle.std.proofs.Common.{rules, ◌-◌}
+use Rattle.std.proofs.Common.{rules}
 use Rattle.matrices.specs.Filling.{fill_start, fill_turn, fill_end}
 use Rattle.ordering.proofs.turning.rotation_of.Goals as goal
 

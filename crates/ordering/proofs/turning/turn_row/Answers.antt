@@ -1,5 +1,5 @@
 -- The row is filled with the entries at the places of the table.
-use Rattle.std.proofs.Common.{rules, arith, ◌-◌, refl}
+use Rattle.std.proofs.Common.{rules, arith, refl}
 use Rattle.matrices.specs.Filling.{fill_start, fill_turn, fill_end}
 use Rattle.ordering.proofs.turning.turn_row.Goals as goal
 

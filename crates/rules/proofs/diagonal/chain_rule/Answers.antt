@@ -1,5 +1,5 @@
 -- Each f_i is tested against the next, up to the first that does not divide it.
-use Rattle.std.proofs.Common.{sym, ◌∙◌, true, ◌-◌, rules, arith}
+use Rattle.std.proofs.Common.{sym, ◌∙◌, rules, arith}
 use Rattle.matrices.specs.Filling.{every_start, every_turn}
 use Rattle.products.specs.Searches.{all_passed, one_failed}
 use Rattle.rules.proofs.diagonal.chain_rule.Goals as goal

@@ -1,5 +1,5 @@
 -- The degrees are filled in from the front.
-use Rattle.std.proofs.Common.{◌∙◌, ap, List, ℕ, ◌-◌, rules, arith}
+use Rattle.std.proofs.Common.{◌∙◌, ap, List, ℕ, rules, arith}
 use lib.ListN.{length-replicate}
 use Rattle.forms.specs.Numbers.{at, order_limit}
 use Rattle.matrices.specs.Filling.{fill_start, fill_turn, fill_end, filled_inside}

@@ -1,5 +1,5 @@
 -- The degrees are summed from the front, and their total is compared with n.
-use Rattle.std.proofs.Common.{sym, ◌∙◌, ap, Bool, ℕ, ◌+◌, ◌-◌, le_antisymm, eq-eqb, ne_eqb, rules, arith}
+use Rattle.std.proofs.Common.{sym, ◌∙◌, ap, Bool, ℕ, ◌+◌, le_antisymm, eq-eqb, ne_eqb, rules, arith}
 use Rattle.forms.specs.Numbers.{at, total}
 use Rattle.matrices.specs.Filling.{total_turn}
 use Rattle.products.specs.Searches.{failing}

@@ -1,5 +1,5 @@
 -- Each f_i is tested at its degree, up to the first that is not monic.
-use Rattle.std.proofs.Common.{sym, ◌∙◌, true, ◌-◌, eq-eqb, ne_eqb, rules, arith}
+use Rattle.std.proofs.Common.{sym, ◌∙◌, eq-eqb, ne_eqb, rules, arith}
 use Rattle.forms.specs.Matrices.{diagonal}
 use Rattle.forms.proofs.Bounds.{degree_limited}
 use Rattle.matrices.specs.Filling.{every_start, every_turn}

@@ -1,5 +1,5 @@
 -- Rows and columns are searched up to the first entry in which the matrices differ.
-use Rattle.std.proofs.Common.{true, ◌-◌, eqb, eq-eqb, ne_eqb, rules}
+use Rattle.std.proofs.Common.{eqb, eq-eqb, ne_eqb, rules}
 use Rattle.matrices.specs.Filling.{every_start, every_turn}
 use Rattle.matrices.specs.Matrices.{cell}
 use Rattle.products.specs.Searches.{every_all, all_passed, entry_failed}

@@ -1,5 +1,5 @@
 -- Rows and columns are searched up to the first entry that is not that of the form.
-use Rattle.std.proofs.Common.{sym, ◌∙◌, true, ◌-◌, eq-eqb, ne_eqb, rules, arith}
+use Rattle.std.proofs.Common.{sym, ◌∙◌, eq-eqb, ne_eqb, rules, arith}
 use Rattle.matrices.specs.Filling.{every_start, every_turn}
 use Rattle.products.specs.Searches.{every_all, all_passed, entry_failed}
 use Rattle.rules.specs.FrobeniusSearch.{built_test, built_entry}

@@ -1,5 +1,5 @@
 -- f times row l is added coefficient by coefficient of f, on the diagonal and then along the row of A; a zero coefficient adds nothing.
-use Rattle.std.proofs.Common.{sym, ◌∙◌, ◌+◌, ◌-◌, rules, arith}
+use Rattle.std.proofs.Common.{sym, ◌∙◌, ◌+◌, rules, arith}
 use Rattle.forms.specs.Matrices.{matrix, characteristic}
 use Rattle.products.specs.Sums.{coefficients, coefficients_inside, coefficients_outside}
 use Rattle.products.specs.Lines.{line_then, line_products_none, line_products_more, line_products_skip, line_products_all}

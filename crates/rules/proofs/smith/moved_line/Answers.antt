@@ -1,5 +1,5 @@
 -- The row is the sum over the inner index, and after l turns each entry the sum of its first l terms.
-use Rattle.std.proofs.Common.{◌-◌, rules, arith}
+use Rattle.std.proofs.Common.{rules, arith}
 use Rattle.forms.specs.Matrices.{matrix}
 use Rattle.forms.proofs.Bounds.{polynomial_matrix_short}
 use Rattle.products.specs.Products.{entry_coefficients, matrix_bytes}

@@ -1,5 +1,5 @@
 -- Rows and columns are searched up to the first entry that differs.
-use Rattle.std.proofs.Common.{◌∙◌, true, suc, ◌*◌, ◌-◌, rules, arith}
+use Rattle.std.proofs.Common.{◌∙◌, suc, ◌*◌, rules, arith}
 use Rattle.matrices.specs.Filling.{every_start, every_turn}
 use Rattle.products.specs.Lines.{line_test}
 use Rattle.products.specs.Searches.{every_all, all_passed, entry_failed}

@@ -1,5 +1,5 @@
 -- The row is filled with the entries of b g.
-use Rattle.std.proofs.Common.{rules, ◌-◌, ◌∙◌, [], get_or}
+use Rattle.std.proofs.Common.{rules, ◌∙◌, [], get_or}
 use Rattle.matrices.specs.Filling.{fill_start, fill_turn, fill_end}
 use Rattle.basis.specs.Steps.{entry_short}
 use Rattle.basis.specs.State.{field_row}

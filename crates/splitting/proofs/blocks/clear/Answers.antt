@@ -1,5 +1,5 @@
 -- The loop wipes row after row, from the last on, where there is something to wipe.
-use Rattle.std.proofs.Common.{rules, arith, ◌-◌, ◌≡◌}
+use Rattle.std.proofs.Common.{rules, arith, ◌≡◌}
 use Rattle.basis.specs.State.{given_next}
 use Rattle.splitting.specs.Settle.{clear_start, cleared_headed}
 use Rattle.splitting.specs.Blocking.{clear_next, clear_skips}

@@ -1,5 +1,5 @@
 -- The loop wipes row after row, from the last on, where there is something to wipe.
-use Rattle.std.proofs.Common.{◌<◌, ◌-◌}
+use Rattle.std.proofs.Common.{◌<◌}
 use Rattle.algebra.specs.Modular.{modulo}
 use Rattle.basis.specs.State.{frame, Fields}
 use Rattle.splitting.specs.Settle.{Cleared}

@@ -1,5 +1,5 @@
 -- All vectors passed are killed.
-use Rattle.std.proofs.Common.{rules, arith, ◌-◌, ◌≡◌}
+use Rattle.std.proofs.Common.{rules, arith, ◌≡◌}
 use Rattle.splitting.specs.Tests.{unkilled_start, unkilled_turn}
 use Rattle.splitting.proofs.blocks.first_unkilled.Goals as goal
 

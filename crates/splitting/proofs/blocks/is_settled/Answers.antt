@@ -1,5 +1,5 @@
 -- All rows passed have nothing behind the block.
-use Rattle.std.proofs.Common.{rules, arith, ◌-◌, true≢false, sym}
+use Rattle.std.proofs.Common.{rules, arith, true≢false, sym}
 use native.Mathlib.Decide.{ℕ_discrete}
 use Rattle.splitting.proofs.blocks.is_settled.Goals as goal
 

@@ -1,5 +1,5 @@
 -- The loop keeps the powers of b at e_j and the combination of those before, from the first power on, which is column j.
-use Rattle.std.proofs.Common.{rules, arith, ◌-◌, ◌≡◌}
+use Rattle.std.proofs.Common.{rules, arith, ◌≡◌}
 use Rattle.splitting.specs.Powers.{powered_start, powered_turn, powered_kills}
 use Rattle.splitting.proofs.blocks.killed.Goals as goal
 

@@ -1,5 +1,5 @@
 -- The loop keeps that the vectors before j are killed, and ends with the first longer block or where no vector is left.
-use Rattle.std.proofs.Common.{arith, ◌-◌}
+use Rattle.std.proofs.Common.{arith}
 use Rattle.algebra.specs.Modular.{modulo}
 use Rattle.basis.specs.State.{frame, given_next, prime_positive}
 use Rattle.splitting.specs.Probe.{Probing, probe_start}

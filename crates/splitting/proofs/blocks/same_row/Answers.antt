@@ -1,6 +1,6 @@
 -- All entries passed are the same.
 use native.Mathlib.Decide.{ℕ_discrete}
-use Rattle.std.proofs.Common.{true≢false, ◌-◌, sym, rules, arith}
+use Rattle.std.proofs.Common.{true≢false, sym, rules, arith}
 use Rattle.splitting.proofs.blocks.same_row.Goals as goal
 
 pub loop-i-init : goal.loop-i-init

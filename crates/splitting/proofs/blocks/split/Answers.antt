@@ -1,6 +1,5 @@
 -- Each turn but the last makes a longer block, so that the turns end. The last finds nothing behind the block and all of the window killed.
-use Rattle.std.proofs.Common.{arith, ℕ, ◌-◌}
-use borrow.Author.Tests.{not-false}
+use Rattle.std.proofs.Common.{arith, ℕ}
 use Rattle.algebra.specs.Modular.{modulo}
 use Rattle.basis.specs.State.{frame, Fields, given_next, prime_positive}
 use Rattle.basis.specs.Frame.{change_none, change_then}

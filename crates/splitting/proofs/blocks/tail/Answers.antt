@@ -1,5 +1,5 @@
 -- The row is filled with zeros up to m and with the opposites from there on.
-use Rattle.std.proofs.Common.{◌-◌, rules, arith}
+use Rattle.std.proofs.Common.{rules, arith}
 use Rattle.matrices.specs.Filling.{fill_start, fill_turn, fill_end}
 use Rattle.splitting.proofs.blocks.tail.Goals as goal
 

@@ -1,6 +1,6 @@
 -- The loop keeps the pass up to column j, and ends where that column has no pivot. A pivot stands in row j + 1 already, or is brought there; then column j
 -- can replace e_(j+1).
-use Rattle.std.proofs.Common.{arith, suc, ◌-◌}
+use Rattle.std.proofs.Common.{arith, suc}
 use Rattle.algebra.specs.Modular.{modulo}
 use Rattle.basis.specs.State.{frame, Fields, given_whole, given_next}
 use Rattle.basis.specs.Searches.{column_of_row}

@@ -1,5 +1,5 @@
 -- All columns passed have a pivot.
-use Rattle.std.proofs.Common.{rules, arith, ◌-◌}
+use Rattle.std.proofs.Common.{rules, arith}
 use Rattle.splitting.specs.Passing.{reach_pivot, reach_turn, reach_stops, reach_ends}
 use Rattle.splitting.proofs.passes.reach.Goals as goal
 

@@ -1,12 +1,14 @@
 // The public operations for C: each returns the number and stores the place.
+#![tactic(auto)]
+
 ghost use Rattle.blocks.specs.Exports.{NumberedAnalysis, NumberedCheck, NumberedReciprocal};
 ghost use Rattle.blocks.specs.Finding.{PlacedFinding};
 
-use crate::{analysis, check, find, reciprocal};
 use answers::{
     analysed_number, analysed_place, reciprocal_number, reciprocal_value, verdict_number,
     verdict_place,
 };
+use blocks::{analysis, check, find, reciprocal};
 use certificate::reading::byte;
 use certificate::records::record_start;
 use finding::record_marked;
