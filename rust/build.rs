@@ -1,4 +1,4 @@
-//! Says where the archive libblocks.a is: the folder that NYARGULET_LIB names, or the one that `rt staticlib blocks` writes to.
+//! Says where the archive libblocks.a is: the folder that NYARGULET_LIB names, or the one that `make library` writes to.
 use std::env;
 use std::path::PathBuf;
 

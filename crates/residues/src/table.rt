@@ -1,4 +1,4 @@
-// Reciprocals modulo 251; that of 0 is given as 0. Their rule stands in specs/Table.antt.
+// Reciprocals modulo 251; that of 0 is given as 0. Their rule stands in proofs/TableRule.antt.
 pub const RECIPROCALS: [u8; 251] = [
     0, 1, 126, 84, 63, 201, 42, 36, 157, 28, 226, 137, 21, 58, 18, 67, 204, 192, 14, 185, 113, 12,
     194, 131, 136, 241, 29, 93, 9, 26, 159, 81, 102, 213, 96, 208, 7, 95, 218, 103, 182, 49, 6,
