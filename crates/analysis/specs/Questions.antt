@@ -9,8 +9,8 @@ use Rattle.forms.specs.Certificate.{Certificate, layout, certificate_length}
 use Rattle.forms.specs.Reading.{order_and_prime}
 use Rattle.forms.specs.Operations.{analysis_asked, Analyses}
 use Rattle.forms.specs.Words.{LaidOut, Certified}
-use Rattle.forms.proofs.Tests.{refuse_not_fine, equal_holds, ask_fine, fine_ask, refuse_ask, then_fine, fine_then, refuse_then}
-use Rattle.forms.proofs.Primes.{prime_limited}
+use Rattle.forms.specs.Tests.{refuse_not_fine, equal_holds, ask_fine, fine_ask, refuse_ask, then_fine, fine_then, refuse_then}
+use Rattle.forms.specs.Primes.{prime_limited}
 use Rattle.forms.proofs.Layouts.{order_and_prime_means}
 use Rattle.forms.specs.declared.Analysed.TheVariants.{Written, Refused}
 

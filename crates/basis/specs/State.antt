@@ -11,7 +11,7 @@ use Rattle.algebra.specs.Sum.{delta, delta_same, delta_other}
 use Rattle.algebra.specs.Matrix.{Matrix, Within}
 use Rattle.algebra.specs.Modular.{residue, modulo, residue_zero, residue_is_zero, one_is_not_zero}
 use Rattle.matrices.specs.Filling.{filled_inside, filled_outside}
-use Rattle.forms.proofs.Primes.{prime_means}
+use Rattle.forms.specs.Primes.{prime_means}
 use Rattle.matrices.specs.Matrices.{cell, vector, matrix, vector_inside, vector_upto, matrix_inside, matrix_within, matrix_is, FieldRow, FieldMatrix, Square, zero_row, zero_row_at}
 use Rattle.matrices.specs.Rows.{plus_row, residue_plus_multiple, unit_row, unit_row_at}
 use Rattle.basis.specs.Frame.{Frame, FrameWithin}

@@ -14,8 +14,8 @@ use Rattle.algebra.specs.Elementary.{elementary, elementary_within}
 use Rattle.algebra.specs.Modular.{residue, modulo, residue_times, residue_remainder, minus_one_times}
 use Rattle.matrices.specs.Filling.{filled, filled_inside, fill_start, fill_turn}
 use Rattle.matrices.specs.Matrices.{cell, vector, matrix, vector_inside, vector_upto, matrix_inside, matrix_within, FieldRow, FieldMatrix, Square, zero_row, zero_row_at}
-use Rattle.forms.proofs.Rings.{total_residue}
-use Rattle.forms.proofs.Tests.{total_suc}
+use Rattle.forms.specs.Rings.{total_residue}
+use Rattle.forms.specs.Tests.{total_suc}
 use Rattle.matrices.specs.Rows.{plus_row}
 use Rattle.basis.specs.Entries.{plus_zero_times, apply_delta, combine_delta, product_elementary_at, elementary_product_at}
 use Rattle.basis.specs.Shear.{taken, taken_zero}

@@ -6,8 +6,8 @@ use Rattle.forms.specs.Numbers.{at, total}
 use Rattle.forms.specs.Polynomials.{Coefficients, degree, exponent}
 use Rattle.forms.specs.Matrices.{diagonal}
 use Rattle.forms.specs.Frobenius.{lead}
-use Rattle.forms.proofs.Bounds.{diagonal_at}
-use Rattle.forms.proofs.Tests.{total_suc}
+use Rattle.forms.specs.Bounds.{diagonal_at}
+use Rattle.forms.specs.Tests.{total_suc}
 use Rattle.blockform.specs.Rows.{row_of, HasRow, row_length, row_at}
 
 -- looking for the last coefficient that is not 0, from coefficient k down

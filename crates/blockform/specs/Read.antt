@@ -6,7 +6,7 @@ use Rattle.forms.specs.Numbers.{at, order_limit}
 use Rattle.forms.specs.Answers.{fine, ask, each}
 use Rattle.forms.specs.Certificate.{size, offset, certificate_length, part}
 use Rattle.forms.specs.Reading.{record_asked, records_asked}
-use Rattle.forms.proofs.Tests.{then_fine, each_fine}
+use Rattle.forms.specs.Tests.{then_fine, each_fine}
 use Rattle.forms.proofs.Records.{offset_suc, offset_within}
 use Rattle.forms.specs.OneRecord.{RecordRead}
 use Rattle.forms.proofs.OneRecord.{record_read}

@@ -10,7 +10,7 @@ use Rattle.forms.specs.Answers.{Asked, fine, refuse}
 use Rattle.forms.specs.Certificate.{mark, size, offset, part}
 use Rattle.forms.specs.Reading.{reading}
 use Rattle.forms.specs.Operations.{is_mark, part_marked, part_found, Finds}
-use Rattle.forms.proofs.Tests.{cond_fails}
+use Rattle.forms.specs.Tests.{cond_fails}
 use Rattle.forms.proofs.Findings.{marks_differ, nothing_found}
 use Rattle.finding.specs.Found.{Marks, is_the_mark, found_not_empty}
 

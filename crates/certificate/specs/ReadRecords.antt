@@ -10,7 +10,7 @@ use Rattle.forms.specs.Numbers.{at}
 use Rattle.forms.specs.Answers.{Asked, fine, refuse, ◌then◌, ask, each}
 use Rattle.forms.specs.Certificate.{size, offset}
 use Rattle.forms.specs.Reading.{order_and_prime, marked, record_asked, records_asked}
-use Rattle.forms.proofs.Tests.{ask_fine, then_fine, fine_then, each_fine, refuse_each}
+use Rattle.forms.specs.Tests.{ask_fine, then_fine, fine_then, each_fine, refuse_each}
 use Rattle.forms.specs.OneRecord.{content_asked}
 use Rattle.forms.proofs.OneRecord.{record_read}
 use Rattle.forms.specs.declared.Fault.{Fault}

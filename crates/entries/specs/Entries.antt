@@ -8,7 +8,7 @@ use Rattle.std.proofs.Math.Nat.{mul-zero, zero-mod}
 use native.Mathlib.Omega.{arith}
 use borrow.Author.Tests.{le-leb, lt-leb, eq-eqb, ne_eqb}
 use Rattle.forms.specs.Numbers.{total}
-use Rattle.forms.proofs.Tests.{total_suc, total_equal, total_of_zeros, total_short}
+use Rattle.forms.specs.Tests.{total_suc, total_equal, total_of_zeros, total_short}
 use Rattle.forms.specs.ClosedForms.{opposite}
 use Rattle.matrices.specs.Matrices.{cell}
 use Rattle.basis.specs.State.{Array, State}

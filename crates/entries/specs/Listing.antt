@@ -9,10 +9,8 @@ use Rattle.forms.specs.Polynomials.{Coefficients}
 use Rattle.forms.specs.Matrices.{Entries, PolynomialEntries, diagonal}
 use Rattle.forms.specs.Certificate.{joined}
 use Rattle.forms.specs.Words.{Residues}
-use Rattle.forms.specs.Bounds.{Short}
-use Rattle.forms.proofs.Bounds.{diagonal_short, diagonal_at}
-use Rattle.forms.specs.Listed.{listed, matrix_listed, polynomials_listed}
-use Rattle.forms.proofs.Listed.{listed_length, listed_at, listed_residues, row_place, row_of, place_of}
+use Rattle.forms.specs.Bounds.{Short, diagonal_short, diagonal_at}
+use Rattle.forms.specs.Listed.{listed, matrix_listed, polynomials_listed, listed_length, listed_at, listed_residues, row_place, row_of, place_of}
 use Rattle.matrices.specs.Filling.{filled, filled_inside}
 
 pub listed_equal : (z : ℕ) (f g : ℕ → ℕ) → ((k : ℕ) → k < z → f k ≡ g k) → listed z f ≡ listed z g

@@ -8,8 +8,7 @@ use Rattle.std.proofs.Math.ListN.{get_or-append}
 use Rattle.forms.specs.Numbers.{at}
 use Rattle.forms.specs.Polynomials.{Coefficients}
 use Rattle.forms.specs.Certificate.{joined}
-use Rattle.forms.specs.Listed.{listed}
-use Rattle.forms.proofs.Listed.{listed_length}
+use Rattle.forms.specs.Listed.{listed, listed_length}
 use Rattle.writing.specs.Put.{put, Puts, length_put, put_put, put_nothing, set_is_put, puts_then, puts_bytes}
 use Rattle.entries.specs.Listing.{listed_append}
 use Rattle.entries.specs.PutRows.{joined_rows_length}

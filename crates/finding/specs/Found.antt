@@ -8,7 +8,7 @@ use Rattle.forms.specs.Answers.{Asked, fine, refuse}
 use Rattle.forms.specs.Certificate.{mark, payload, size, offset, part}
 use Rattle.forms.specs.Reading.{marked, reading, certificate_of}
 use Rattle.forms.specs.Operations.{is_mark, part_found, Finds}
-use Rattle.forms.proofs.Tests.{equal_holds, and_parts, and_holds}
+use Rattle.forms.specs.Tests.{equal_holds, and_parts, and_holds}
 use Rattle.forms.proofs.Layouts.{payload_read, reading_laid_out}
 use Rattle.forms.proofs.Findings.{found_by_mark, nothing_found, payload_not_empty}
 use Rattle.forms.specs.declared.Fault.{Fault}

@@ -4,21 +4,19 @@ use Rattle.std.specs.Prelude.{◌≡◌, List, ℕ, ◌*◌, ◌%◌, ◌<◌}
 use Rattle.std.proofs.Math.Path.{refl, fun_ext}
 use Rattle.std.proofs.Common.{◌∙◌, ap, ap₂}
 use Rattle.algebra.specs.Modular.{Prime}
-use Rattle.forms.proofs.Tests.{total_equal}
-use Rattle.forms.proofs.Primes.{prime_means, prime_positive}
+use Rattle.forms.specs.Tests.{total_equal}
+use Rattle.forms.specs.Primes.{prime_means, prime_positive}
 use Rattle.forms.specs.Polynomials.{Coefficients, convolution, degree}
 use Rattle.forms.specs.Matrices.{Entries, PolynomialEntries, matrix, polynomial_matrix, diagonal, field_product, polynomial_product}
 use Rattle.forms.specs.Frobenius.{frobenius}
 use Rattle.forms.specs.Words.{PolynomialEqual, LaidOut, Certified}
 use Rattle.forms.proofs.Payloads.{laid_out}
-use Rattle.forms.proofs.Bounds.{diagonal_short, degree_above, diagonal_small, matrix_small}
-use Rattle.forms.proofs.Inverses.{field_left_of_right}
-use Rattle.forms.specs.Listed.{polynomials_listed}
-use Rattle.forms.proofs.Listed.{polynomials_of_listed, polynomials_listed_residues}
-use Rattle.forms.specs.SmithDiagonals.{SmithDiagonal}
-use Rattle.forms.proofs.SmithDiagonals.{chain_diagonal}
+use Rattle.forms.specs.Bounds.{diagonal_short, degree_above, diagonal_small, matrix_small}
+use Rattle.forms.specs.Inverses.{field_left_of_right}
+use Rattle.forms.specs.Listed.{polynomials_listed, polynomials_of_listed, polynomials_listed_residues}
+use Rattle.forms.specs.SmithDiagonals.{SmithDiagonal, chain_diagonal}
 use Rattle.forms.specs.ClosedForms.{closed_P, closed_PI, closed_Q, closed_QI}
-use Rattle.forms.proofs.ClosedBounds.{degree_bound, closed_reduced}
+use Rattle.forms.specs.ClosedBounds.{degree_bound, closed_reduced}
 use Rattle.forms.specs.ClosedRules.{SmithRules}
 use Rattle.forms.proofs.ClosedRules.{closed_smith_rules}
 use Rattle.forms.specs.Certifying.{Decomposes, closed_certificate}

@@ -17,17 +17,16 @@ use Rattle.algebra.specs.Polynomial.{Polynomial, polynomials, polynomial_equal, 
 use Rattle.algebra.specs.BlockFactors.{CompanionBlocks, left_factor, left_factor_within, left_factor_next, left_factor_end, product_left_factor_zero, product_left_factor, right_factor, right_factor_within, right_factor_first, right_factor_next, right_inverse, right_inverse_within, product_right_inverse_next, product_right_inverse_head}
 use Rattle.algebra.specs.Modular.{Residue, residue, residue_plus, residue_times, residue_remainder, modulo}
 use Rattle.forms.specs.Numbers.{total}
-use Rattle.forms.proofs.Tests.{cond_holds, cond_fails}
+use Rattle.forms.specs.Tests.{cond_holds, cond_fails}
 use Rattle.forms.specs.Polynomials.{Coefficients, degree}
 use Rattle.forms.specs.Matrices.{Entries}
-use Rattle.forms.proofs.Rings.{total_residue, Over, lift, lift_over}
-use Rattle.forms.proofs.Scalars.{scalar_of, scalar_of_is, scalar_of_coefficient, scalar_of_minus, scalar_of_opposite, scalar_of_plus_X_times, scalars_of, scalars_of_inside, scalars_of_within}
-use Rattle.forms.specs.BlockIndices.{degrees, block, head, last, position, is_head}
-use Rattle.forms.proofs.BlockIndices.{block_next, block_of_head, head_of, head_row, head_equal, head_position, last_below, last_after, last_of, last_equal, position_below, row_cases}
+use Rattle.forms.specs.Rings.{total_residue, Over, lift, lift_over}
+use Rattle.forms.specs.Scalars.{scalar_of, scalar_of_is, scalar_of_coefficient, scalar_of_minus, scalar_of_opposite, scalar_of_plus_X_times, scalars_of, scalars_of_inside, scalars_of_within}
+use Rattle.forms.specs.BlockIndices.{degrees, block, head, last, position, is_head, block_next, block_of_head, head_of, head_row, head_equal, head_position, last_below, last_after, last_of, last_equal, position_below, row_cases}
 use Rattle.forms.specs.SmithDiagonals.{SmithDiagonal}
 use Rattle.forms.proofs.FrobeniusReduction.{shifted, shifted_coefficient, companion_blocks}
 use Rattle.forms.specs.ClosedForms.{opposite, P_row, PI_column, Q_column, QI_row}
-use Rattle.forms.proofs.ClosedBounds.{P_row_short}
+use Rattle.forms.specs.ClosedBounds.{P_row_short}
 
 module _ (p n : ℕ) (f : ℕ → Coefficients) (S : SmithDiagonal p n f) where
   abbrev K : Ring (Residue p)

@@ -1,4 +1,4 @@
--- The closed forms satisfy rules 4 to 6: P and PI are inverse to each other, so are Q and QI, and P(XE_A)Q = D, over F_p[X].
+-- The closed forms satisfy rules 4 to 6: P and PI are inverse to each other, so are Q and QI, and P(XE-A)Q = D, over F_p[X].
 use Rattle.std.specs.Prelude.{◌≡◌, ℕ, ◌<◌}
 use Rattle.std.proofs.Math.Path.{sym, ap}
 use Rattle.std.proofs.Common.{◌∙◌, ap₂, zero-add}
@@ -20,12 +20,12 @@ use Rattle.forms.specs.Polynomials.{Coefficients}
 use Rattle.forms.specs.Matrices.{Entries, PolynomialEntries, unit, field_product}
 use Rattle.forms.specs.Frobenius.{frobenius}
 use Rattle.forms.specs.Words.{FieldEqual}
-use Rattle.forms.proofs.Rings.{field, field_within, Over, product_over, equal_over, diagonal_over, characteristic_over}
-use Rattle.forms.proofs.Inverses.{field_basis, inverse_polynomial}
-use Rattle.forms.proofs.Scalars.{scalars_of}
+use Rattle.forms.specs.Rings.{field, field_within, Over, product_over, equal_over, diagonal_over}
+use Rattle.forms.proofs.Rings.{characteristic_over}
+use Rattle.forms.specs.Inverses.{field_basis, inverse_polynomial}
+use Rattle.forms.specs.Scalars.{scalars_of}
 use Rattle.forms.specs.BlockIndices.{degrees}
-use Rattle.forms.specs.BlockPermutation.{to, from}
-use Rattle.forms.proofs.BlockPermutation.{to_permutes}
+use Rattle.forms.specs.BlockPermutation.{to, from, to_permutes}
 use Rattle.forms.specs.SmithDiagonals.{SmithDiagonal}
 use Rattle.forms.proofs.FrobeniusReduction.{shifted, shifted_coefficient, companion_blocks, factor_is, characteristic_reduced}
 use Rattle.forms.specs.ClosedForms.{PI_column, P_row, Q_column, QI_row, closed_P, closed_PI, closed_Q, closed_QI}
@@ -138,7 +138,7 @@ module _ (p n : ℕ) (prime : Prime p) (f : ℕ → Coefficients) (S : SmithDiag
   Q_QI_inverse : Inverse L n (T_scalars · back · off) (onto · (right · TI_scalars))
   Q_QI_inverse = inverse_of_product L n (T_scalars · back) (right · TI_scalars) off onto (inverse_symmetric L n _ _ Q_inverse) (inverse_symmetric L n _ _ permutation_inverses)
 
-  -- (XE_A) T back = T left middle
+  -- (XE-A) T back = T left middle
   abbrev XE_A : Matrix L
   XE_A = characteristic K n (field p n A)
 

@@ -10,13 +10,13 @@ use Rattle.forms.specs.Certificate.{Certificate, payload, layout, size, offset, 
 use Rattle.forms.specs.Words.{Certified, LaidOut}
 use Rattle.forms.specs.Operations.{analysis_asked, Analyses, Checks, Finds}
 use Rattle.forms.specs.Reciprocals.{reciprocal_asked, InverseOf, Reciprocates}
-use Rattle.forms.proofs.Tests.{then_fine, ask_fine}
-use Rattle.forms.proofs.Primes.{prime_means}
+use Rattle.forms.specs.Tests.{then_fine, ask_fine}
+use Rattle.forms.specs.Primes.{prime_means}
 use Rattle.forms.specs.Records.{laid_record}
 use Rattle.forms.proofs.Records.{offset_within}
 use Rattle.forms.proofs.Layouts.{layout_certificate_length, layout_at}
 use Rattle.forms.proofs.Uniqueness.{frobenius_unique}
-use Rattle.forms.proofs.InversesModulo.{inverse_modulo_unique}
+use Rattle.forms.specs.InversesModulo.{inverse_modulo_unique}
 use Rattle.forms.specs.declared.Analysed.{Analysed}
 use Rattle.forms.specs.declared.Verdict.{Verdict}
 use Rattle.forms.specs.declared.Reciprocal.{Reciprocal}

@@ -9,7 +9,7 @@ use Rattle.forms.specs.Certificate.{Certificate, mark, payload, layout, size, pa
 use Rattle.forms.specs.Reading.{reading}
 use Rattle.forms.specs.Words.{LaidOut}
 use Rattle.forms.specs.Operations.{is_mark, part_marked, part_found}
-use Rattle.forms.proofs.Tests.{every_at, cond_fails}
+use Rattle.forms.specs.Tests.{every_at, cond_fails}
 use Rattle.forms.proofs.Records.{ten_cases}
 use Rattle.forms.proofs.Payloads.{payload_length}
 use Rattle.forms.proofs.Layouts.{reading_of_layout, part_there}

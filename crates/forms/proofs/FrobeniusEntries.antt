@@ -6,12 +6,11 @@ use Prim.Native.Nat.{ℕ, zero, suc, ◌+◌, ◌-◌, ◌%◌, ◌≤◌, ◌<�
 use Rattle.std.proofs.Math.Decide.{ℕ_discrete, dec_lt}
 use native.Mathlib.Omega.{arith}
 use Rattle.std.proofs.Math.Dec.{eqb-suc-suc, ltb, leb, ltb→lt, leb→le}
-use Rattle.forms.proofs.Tests.{equal_holds, and_parts, and_holds, cond_holds, cond_fails, total_suc}
+use Rattle.forms.specs.Tests.{equal_holds, and_parts, and_holds, cond_holds, cond_fails, total_suc}
 use Rattle.forms.specs.Polynomials.{Coefficients, degree}
 use Rattle.forms.specs.Matrices.{unit}
 use Rattle.forms.specs.Frobenius.{companion, blocks, frobenius}
-use Rattle.forms.specs.BlockIndices.{degrees, start, block, last, position, is_head}
-use Rattle.forms.proofs.BlockIndices.{start_zero, block_in, block_is, block_next, block_last, head_start, head_equal, head_position, head_of, last_below, last_equal, last_position, suc_last, position_of, position_next}
+use Rattle.forms.specs.BlockIndices.{degrees, start, block, last, position, is_head, start_zero, block_in, block_is, block_next, block_last, head_start, head_equal, head_position, head_of, last_below, last_equal, last_position, suc_last, position_of, position_next}
 
 -- block b, of m rows, in front of the r blocks behind it
 module _ (p n : ℕ) (f : ℕ → Coefficients) (r b i j : ℕ) where

@@ -17,13 +17,11 @@ use Rattle.algebra.specs.BlockReduction.{block_reduction}
 use Rattle.algebra.specs.Modular.{Residue, residue, residue_zero, residue_one, modulo}
 use Rattle.forms.specs.Polynomials.{Coefficients}
 use Rattle.forms.specs.Frobenius.{frobenius}
-use Rattle.forms.proofs.Rings.{field, field_inside, field_within, polynomial, polynomial_coefficient}
-use Rattle.forms.proofs.Scalars.{scalar_of, scalar_of_is, scalar_of_zero, scalar_of_opposite, scalar_of_plus_X_times, scalar_of_unit}
-use Rattle.forms.specs.BlockIndices.{degrees, block, head, last, position, is_head}
-use Rattle.forms.proofs.BlockIndices.{block_below, block_next, block_last, head_of, head_equal, head_position, last_below, last_after, last_equal, last_of, last_position, after_last, position_next, zero_is_head, row_cases}
+use Rattle.forms.specs.Rings.{field, field_inside, field_within, polynomial, polynomial_coefficient}
+use Rattle.forms.specs.Scalars.{scalar_of, scalar_of_is, scalar_of_zero, scalar_of_opposite, scalar_of_plus_X_times, scalar_of_unit}
+use Rattle.forms.specs.BlockIndices.{degrees, block, head, last, position, is_head, block_below, block_next, block_last, head_of, head_equal, head_position, last_below, last_after, last_equal, last_of, last_position, after_last, position_next, zero_is_head, row_cases}
 use Rattle.forms.specs.SmithDiagonals.{SmithDiagonal}
-use Rattle.forms.specs.BlockPermutation.{to}
-use Rattle.forms.proofs.BlockPermutation.{to_head, to_below, to_other_below, one_degree}
+use Rattle.forms.specs.BlockPermutation.{to, to_head, to_below, to_other_below, one_degree}
 use Rattle.forms.proofs.FrobeniusEntries.{frobenius_last, frobenius_head, frobenius_next}
 
 module _ (p n : ℕ) (f : ℕ → Coefficients) (S : SmithDiagonal p n f) where

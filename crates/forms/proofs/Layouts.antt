@@ -14,8 +14,8 @@ use Rattle.forms.specs.Answers.{Asked, fine, ◌then◌, ask, each}
 use Rattle.forms.specs.Certificate.{Certificate, mark, payload, record_bytes, joined, layout, size, offset, certificate_length, part}
 use Rattle.forms.specs.Reading.{order_and_prime, record_asked, records_asked, reading, certificate_of}
 use Rattle.forms.specs.Words.{Residues, LaidOut}
-use Rattle.forms.proofs.Tests.{and_parts, and_holds, ask_fine, fine_ask, then_fine, fine_then, each_fine, fine_each}
-use Rattle.forms.proofs.Primes.{prime_positive}
+use Rattle.forms.specs.Tests.{and_parts, and_holds, ask_fine, fine_ask, then_fine, fine_then, each_fine, fine_each}
+use Rattle.forms.specs.Primes.{prime_positive}
 use Rattle.forms.specs.Records.{laid_record}
 use Rattle.forms.proofs.Records.{ten_cases, record_bytes_laid, record_length, joined_length, joined_at, offset_suc, offset_within, certificate_length_is}
 use Rattle.forms.proofs.Payloads.{payload_length}

@@ -5,8 +5,8 @@ use Rattle.std.proofs.Math.Decide.{dec_lt}
 use Rattle.std.proofs.Math.ListN.{get_or-eq_default}
 use Rattle.forms.specs.Numbers.{at}
 use Rattle.forms.specs.Answers.{Asked, fine, ◌then◌, ask, each}
-use Rattle.forms.proofs.Tests.{ask_fine, then_fine, each_fine}
-use Rattle.forms.proofs.Primes.{prime_positive}
+use Rattle.forms.specs.Tests.{ask_fine, then_fine, each_fine}
+use Rattle.forms.specs.Primes.{prime_positive}
 use Rattle.forms.specs.Certificate.{certificate_length}
 use Rattle.forms.specs.Reading.{order_and_prime}
 use Rattle.forms.proofs.Layouts.{order_and_prime_means}

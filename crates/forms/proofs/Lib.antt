@@ -1,20 +1,14 @@
+-- Document 01's cases, and the theorems.
 pub mod AsDocumented
-pub mod Tests
-pub mod Primes
-pub mod InversesModulo
 pub mod Records
 pub mod Payloads
 pub mod OneRecord
 pub mod Layouts
 pub mod Findings
-pub mod Promises
 pub mod Prefixes
 pub mod Rings
 pub mod Bounds
-pub mod Remainders
-pub mod Inverses
 pub mod RulesMean
-pub mod Listed
 pub mod Uniqueness
 pub mod Determined
 pub mod Verdicts
@@ -22,13 +16,8 @@ pub mod Similarity
 pub mod Walk
 pub mod Starred
 pub mod ListedErrors
-pub mod BlockIndices
-pub mod BlockPermutation
-pub mod SmithDiagonals
 pub mod FrobeniusEntries
-pub mod Scalars
 pub mod FrobeniusReduction
-pub mod ClosedBounds
 pub mod ClosedMatrices
 pub mod ClosedRules
 pub mod LegalRequests

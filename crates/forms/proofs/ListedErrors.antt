@@ -8,10 +8,9 @@ use Rattle.forms.specs.Polynomials.{Coefficients, convolution, degree, remainder
 use Rattle.forms.specs.Matrices.{diagonal}
 use Rattle.forms.specs.Certificate.{Certificate}
 use Rattle.forms.specs.Words.{PolynomialDivides, Certified, LaidOut, Similar}
-use Rattle.forms.proofs.Tests.{every_at}
-use Rattle.forms.specs.Bounds.{Short}
-use Rattle.forms.proofs.Bounds.{convolution_short, diagonal_short}
-use Rattle.forms.proofs.Remainders.{divides_means}
+use Rattle.forms.specs.Tests.{every_at}
+use Rattle.forms.specs.Bounds.{Short, convolution_short, diagonal_short}
+use Rattle.forms.specs.Remainders.{divides_means}
 use Rattle.forms.proofs.Uniqueness.{frobenius_unique}
 use Rattle.forms.proofs.Similarity.{similar_iff_same_forms}
 use Rattle.forms.specs.Starred.{Printed, starred}

@@ -13,7 +13,7 @@ use Rattle.forms.specs.Numbers.{at}
 use Rattle.forms.specs.Answers.{fine, ◌then◌, ask}
 use Rattle.forms.specs.Certificate.{mark, record_bytes, size, offset, part}
 use Rattle.forms.specs.Reading.{record_asked}
-use Rattle.forms.proofs.Tests.{equal_holds, and_parts, and_holds, ask_fine, fine_ask, then_fine, fine_then}
+use Rattle.forms.specs.Tests.{equal_holds, and_parts, and_holds, ask_fine, fine_ask, then_fine, fine_then}
 use Rattle.forms.proofs.Records.{record_bytes_laid}
 use Rattle.forms.specs.OneRecord.{Bytes, RecordRead, content_asked}
 

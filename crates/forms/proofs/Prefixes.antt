@@ -11,7 +11,7 @@ use Rattle.forms.specs.Answers.{Asked, fine, refuse, ◌then◌, ask, each}
 use Rattle.forms.specs.Certificate.{size, offset, certificate_length}
 use Rattle.forms.specs.Reading.{order_and_prime, record_asked, records_asked, reading, certificate_of}
 use Rattle.forms.specs.Rules.{rules, verdict_of, verdict}
-use Rattle.forms.proofs.Tests.{ask_fine, then_fine, each_fine}
+use Rattle.forms.specs.Tests.{ask_fine, then_fine, each_fine}
 use Rattle.forms.proofs.Records.{offset_suc, offset_within, certificate_length_is}
 use Rattle.forms.specs.OneRecord.{content_asked}
 use Rattle.forms.proofs.OneRecord.{record_read}

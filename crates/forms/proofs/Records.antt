@@ -5,7 +5,7 @@ use Rattle.std.proofs.Math.Decide.{ℕ_discrete}
 use Rattle.std.proofs.Math.ListN.{get_or-append}
 use Rattle.forms.specs.Numbers.{at, total, every}
 use Rattle.forms.specs.Certificate.{mark, record_bytes, joined, size, offset, certificate_length}
-use Rattle.forms.proofs.Tests.{every_at, total_suc}
+use Rattle.forms.specs.Tests.{every_at, total_suc}
 use Rattle.forms.specs.Records.{laid_record}
 
 -- what holds of each of the ten records holds of record k

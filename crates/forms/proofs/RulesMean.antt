@@ -14,14 +14,14 @@ use Rattle.forms.specs.Frobenius.{frobenius}
 use Rattle.forms.specs.Certificate.{Certificate}
 use Rattle.forms.specs.Rules.{field_equal, polynomial_equal, rule, rules}
 use Rattle.forms.specs.Words.{FieldEqual, PolynomialEqual, PolynomialDivides, Certified, LaidOut}
-use Rattle.forms.proofs.Tests.{every_at, every_holds, equal_holds, total_equal, ask_fine, fine_ask, each_fine, fine_each}
+use Rattle.forms.specs.Tests.{every_at, every_holds, equal_holds, total_equal, ask_fine, fine_ask, each_fine, fine_each}
 use Rattle.forms.proofs.Payloads.{DF_residues, FB_residues}
-use Rattle.forms.proofs.Primes.{prime_means}
-use Rattle.forms.specs.Bounds.{ShortEntries}
-use Rattle.forms.proofs.Bounds.{polynomial_matrix_short, diagonal_short, polynomial_unit_short, diagonal_matrix_short, inverse_product_short, smith_product_short, degree_above, degree_is, matrix_small, diagonal_small, frobenius_small}
-use Rattle.forms.proofs.Remainders.{divides_means}
-use Rattle.forms.proofs.Rings.{lift_over}
-use Rattle.forms.proofs.Inverses.{field_left_of_right, polynomial_left_of_right}
+use Rattle.forms.specs.Primes.{prime_means}
+use Rattle.forms.specs.Bounds.{ShortEntries, polynomial_matrix_short, diagonal_short, polynomial_unit_short, diagonal_matrix_short, inverse_product_short, smith_product_short, degree_above, degree_is, matrix_small, diagonal_small}
+use Rattle.forms.proofs.Bounds.{frobenius_small}
+use Rattle.forms.specs.Remainders.{divides_means}
+use Rattle.forms.specs.Rings.{lift_over}
+use Rattle.forms.specs.Inverses.{field_left_of_right, polynomial_left_of_right}
 
 -- the tests of equality
 pub field_equal_means : (p n : ℕ) (A B : Entries) → T (field_equal p n A B) ↔ FieldEqual p n A B

@@ -14,10 +14,9 @@ use Rattle.algebra.specs.Modular.{Residue, residue, residue_of_value, modulo, Pr
 use Rattle.forms.specs.Matrices.{matrix}
 use Rattle.forms.specs.Certificate.{Certificate}
 use Rattle.forms.specs.Words.{Certified, Residues, LaidOut, Similar}
-use Rattle.forms.proofs.Rings.{field, field_within, field_inside, field_of_product, equal_of_field}
-use Rattle.forms.proofs.Inverses.{field_basis, inverse_field}
-use Rattle.forms.specs.Listed.{matrix_listed}
-use Rattle.forms.proofs.Listed.{matrix_of_listed, matrix_listed_residues}
+use Rattle.forms.specs.Rings.{field, field_within, field_inside, field_of_product, equal_of_field}
+use Rattle.forms.specs.Inverses.{field_basis, inverse_field}
+use Rattle.forms.specs.Listed.{matrix_listed, matrix_of_listed, matrix_listed_residues}
 use Rattle.forms.specs.Uniqueness.{Laid}
 use Rattle.forms.proofs.Uniqueness.{laid_at, XE_minus, entry, certified_smith, forms_equal}
 use Rattle.forms.specs.Similarity.{Renamed}

@@ -13,7 +13,7 @@ use Rattle.forms.specs.Certificate.{mark, payload, record_bytes, joined, layout,
 use Rattle.forms.specs.Reading.{order_and_prime, record_asked, records_asked, reading, certificate_of}
 use Rattle.forms.specs.Rules.{rule, rules}
 use Rattle.forms.specs.Words.{Certified, LaidOut}
-use Rattle.forms.proofs.Tests.{and_parts}
+use Rattle.forms.specs.Tests.{and_parts}
 use Rattle.forms.proofs.Layouts.{reading_laid_out}
 use Rattle.forms.proofs.RulesMean.{rules_mean}
 use Rattle.forms.specs.Starred.{AsPrinted, Case, case, starred}

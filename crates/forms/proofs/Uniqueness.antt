@@ -1,4 +1,4 @@
--- Two certificates of one matrix have the same D and F, byte by byte: the Smith form of XE_A with monic entries is unique, and F is
+-- Two certificates of one matrix have the same D and F, byte by byte: the Smith form of XE-A with monic entries is unique, and F is
 -- built from it.
 use Rattle.std.specs.Prelude.{◌≡◌, List, ℕ, suc, ◌*◌, ◌<◌}
 use Rattle.std.proofs.Common.{sym, ◌∙◌, ap, subst, subst₂}
@@ -16,12 +16,13 @@ use Rattle.forms.specs.Frobenius.{frobenius}
 use Rattle.forms.specs.Certificate.{Certificate}
 use Rattle.forms.specs.Words.{Certified, Residues, LaidOut}
 use Rattle.forms.proofs.Payloads.{MA_residues, DF_residues, FB_residues}
-use Rattle.forms.proofs.Primes.{prime_means}
-use Rattle.forms.proofs.Bounds.{polynomial_matrix_short, diagonal_short, matrix_small, diagonal_small}
-use Rattle.forms.proofs.Rings.{field, field_within, polynomial, polynomial_coefficient, Over, lift, lift_over, product_over, over_equal, diagonal_over, characteristic_over}
-use Rattle.forms.proofs.Remainders.{Reduces, reduces_monic, divides_over}
-use Rattle.forms.proofs.Inverses.{polynomial_inverse}
-use Rattle.forms.proofs.Listed.{matrix_determines, diagonal_determines}
+use Rattle.forms.specs.Primes.{prime_means}
+use Rattle.forms.specs.Bounds.{polynomial_matrix_short, diagonal_short, matrix_small, diagonal_small}
+use Rattle.forms.specs.Rings.{field, field_within, polynomial, polynomial_coefficient, Over, lift, lift_over, product_over, over_equal, diagonal_over}
+use Rattle.forms.proofs.Rings.{characteristic_over}
+use Rattle.forms.specs.Remainders.{Reduces, reduces_monic, divides_over}
+use Rattle.forms.specs.Inverses.{polynomial_inverse}
+use Rattle.forms.specs.Listed.{matrix_determines, diagonal_determines}
 use Rattle.forms.specs.Uniqueness.{Laid}
 
 pub laid_at : (p n : ℕ) (c : Certificate) → LaidOut c → c.p ≡ p → c.n ≡ n → Laid p n c
@@ -40,7 +41,7 @@ module _ (p : ℕ) (prime : Prime p) (n : ℕ) where
   abbrev L : Ring (Polynomial K)
   L = polynomials K
 
-  -- XE_A over F_p[X]
+  -- XE-A over F_p[X]
   abbrev pub XE_minus : List ℕ → Matrix L
   XE_minus A = characteristic K n (field p n (matrix n A))
 

@@ -12,8 +12,8 @@ use Rattle.forms.specs.Numbers.{at}
 use Rattle.forms.specs.Matrices.{matrix}
 use Rattle.forms.specs.Certificate.{Certificate}
 use Rattle.forms.specs.Words.{Certified, Residues, LaidOut}
-use Rattle.forms.proofs.Rings.{field, field_inside, total_residue}
-use Rattle.forms.proofs.Listed.{listed_at, listed_residues}
+use Rattle.forms.specs.Rings.{field, field_inside, total_residue}
+use Rattle.forms.specs.Listed.{listed_at, listed_residues}
 use Rattle.forms.proofs.Uniqueness.{laid_at}
 use Rattle.forms.proofs.Similarity.{certified_basis}
 use Rattle.forms.specs.Walk.{applied, steps}

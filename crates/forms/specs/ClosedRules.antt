@@ -1,11 +1,11 @@
--- The closed forms satisfy rules 4 to 6: P and PI are inverse to each other, so are Q and QI, and P(XE_A)Q = D, over F_p[X].
+-- The closed forms satisfy rules 4 to 6: P and PI are inverse to each other, so are Q and QI, and P(XE-A)Q = D, over F_p[X].
 use Rattle.std.specs.Prelude.{ℕ}
 use Rattle.forms.specs.Polynomials.{Coefficients}
 use Rattle.forms.specs.Matrices as definitions
 use Rattle.forms.specs.Matrices.{Entries, PolynomialEntries, polynomial_unit, diagonal_matrix, polynomial_product}
 use Rattle.forms.specs.Words.{PolynomialEqual}
 
--- P(XE_A)Q = D with the diagonal f, and PI and QI are the inverses of P and of Q
+-- P(XE-A)Q = D with the diagonal f, and PI and QI are the inverses of P and of Q
 pub record SmithRules (p n : ℕ) (A : Entries) (f : ℕ → Coefficients) (P PI Q QI : PolynomialEntries) : Type 0 where
   pub P_PI : PolynomialEqual p n (polynomial_product n P PI) polynomial_unit
   pub PI_P : PolynomialEqual p n (polynomial_product n PI P) polynomial_unit

@@ -10,11 +10,18 @@ pub mod Reading
 pub mod Rules
 pub mod Words
 pub mod Operations
--- Document 01's cases, and the theorems.
+-- What the theorems speak of, and those theorems on which no edit of a definition bears. The others stand in proofs/.
+pub mod Tests
+pub mod Primes
+pub mod InversesModulo
 pub mod Records
 pub mod OneRecord
 pub mod Findings
+pub mod Promises
+pub mod Rings
 pub mod Bounds
+pub mod Remainders
+pub mod Inverses
 pub mod Listed
 pub mod Uniqueness
 pub mod Determined
@@ -26,6 +33,7 @@ pub mod ListedErrors
 pub mod BlockIndices
 pub mod BlockPermutation
 pub mod SmithDiagonals
+pub mod Scalars
 pub mod ClosedForms
 pub mod ClosedBounds
 pub mod ClosedRules

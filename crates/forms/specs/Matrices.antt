@@ -33,7 +33,7 @@ polynomial_unit i j k = cond (eqb k 0) (unit i j) 0
 unfoldable pub diagonal_matrix : (ℕ → Coefficients) → PolynomialEntries
 diagonal_matrix f i j k = cond (eqb i j) (f i k) 0
 
--- XE_A
+-- XE-A
 unfoldable pub characteristic : ℕ → Entries → PolynomialEntries
 characteristic p A i j k = cond (eqb k 0) (p - A i j) (cond (eqb k 1) (unit i j) 0)
 

@@ -18,7 +18,7 @@ abbrev pub PolynomialDivides : ℕ → ℕ → Coefficients → Coefficients →
 PolynomialDivides p n f g = (q : Coefficients) × ((k : ℕ) → n < k → q k ≡ 0) × ((k : ℕ) → convolution f q k % p ≡ g k % p)
 
 -- c is a certificate of A: f_i is monic of degree (degree i) and divides the next, the degrees add up to n, P, Q and T are invertible,
--- P(XE_A)Q = D, F is built from D and A T = T F
+-- P(XE-A)Q = D, F is built from D and A T = T F
 pub record Certified (p n : ℕ) (A : List ℕ) (c : Certificate) : Type 0 where
   pub given : (c.p ≡ p) × (c.n ≡ n) × (c.MA ≡ A)
   pub degree : ℕ → ℕ

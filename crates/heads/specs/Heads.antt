@@ -7,7 +7,7 @@ use Rattle.std.proofs.Math.Bool.{true, false, cond}
 use Rattle.std.proofs.Math.Decide.{ℕ_discrete, dec_lt}
 use native.Mathlib.Omega.{arith}
 use Rattle.forms.specs.Numbers.{at, total, order_limit}
-use Rattle.forms.proofs.Tests.{total_suc}
+use Rattle.forms.specs.Tests.{total_suc}
 use Rattle.matrices.specs.Matrices.{cell, zero_row, zero_row_at}
 
 -- row i begins a block: nothing stands just below the diagonal there

@@ -3,7 +3,7 @@ use Rattle.std.specs.Prelude.{◌≡◌, refl, ◌≢◌, ◌⊎◌, List, ℕ, 
 use Rattle.std.proofs.Common.{sym, ◌∙◌, ap, ap₂, inl, inr, ⊎_elim, add-one, mod-lt, le_antisymm, arith}
 use Rattle.std.proofs.Math.Decide.{ℕ_discrete}
 use Rattle.forms.specs.Numbers.{prime, order_limit}
-use Rattle.forms.proofs.Primes.{prime_positive}
+use Rattle.forms.specs.Primes.{prime_positive}
 use Rattle.forms.specs.Reciprocals.{InverseOf}
 use Rattle.algebra.specs.Ring.{zero_plus, one_times}
 use Rattle.algebra.specs.Sum.{delta, delta_same, delta_symmetric}

@@ -2,7 +2,7 @@
 use Rattle.std.specs.Prelude.{◌≡◌, Bool, true, false, List, [], ℕ, ◌<◌, T, eqb, get_or}
 use Rattle.std.proofs.Common.{sym, ◌∙◌, ap, subst, ⊎_elim, eqb→eq}
 use Rattle.forms.specs.Numbers.{every}
-use Rattle.forms.proofs.Tests.{every_at, every_holds, equal_holds}
+use Rattle.forms.specs.Tests.{every_at, every_holds, equal_holds}
 use Rattle.algebra.specs.Ring.{zero_times}
 use Rattle.algebra.specs.Sum.{sum_of_zeros, delta_same}
 use Rattle.algebra.specs.Matrix.{Matrix, product, product_at, identity, identity_inside, matrix_zero}

@@ -9,7 +9,7 @@ use Rattle.std.proofs.Math.Decide.{dec_lt, ℕ_discrete}
 use Rattle.std.proofs.Math.ListN.{drop, get_or}
 use Rattle.std.proofs.Math.Seq.{drop-cons, set_at, get_or-append-add, get_or-drop}
 use Rattle.forms.specs.Numbers.{total, every}
-use Rattle.forms.proofs.Tests.{total_suc}
+use Rattle.forms.specs.Tests.{total_suc}
 
 module _ {A : Type 0} where
   -- f 0 ∷ .. ∷ f (n-1)

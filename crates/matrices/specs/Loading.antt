@@ -4,7 +4,7 @@ use Rattle.std.proofs.Common.{sym, ◌∙◌, ap}
 use Rattle.algebra.specs.Modular.{residue}
 use Rattle.forms.specs.Numbers.{at}
 use Rattle.forms.specs.Matrices as definitions
-use Rattle.forms.proofs.Rings.{field, field_inside, field_within}
+use Rattle.forms.specs.Rings.{field, field_inside, field_within}
 use Rattle.forms.specs.Words.{Residues}
 use Rattle.matrices.specs.Filling.{filled, filled_inside}
 use Rattle.matrices.specs.Matrices.{cell, matrix, matrix_is, FieldMatrix, zero_row, zero_rows, filled_row, filled_cell, filled_field}

@@ -5,7 +5,7 @@ use Rattle.std.proofs.Math.Decide.{dec_lt}
 use Rattle.std.proofs.lemmas.List.{get_or-replicate, length-replicate}
 use Rattle.std.proofs.Math.ListN.{get_or-eq_default}
 use Rattle.forms.specs.Numbers.{order_limit}
-use Rattle.forms.proofs.Rings.{field, field_inside, field_within}
+use Rattle.forms.specs.Rings.{field, field_inside, field_within}
 use Rattle.algebra.specs.Choice.{below, below_inside, below_outside}
 use Rattle.algebra.specs.Matrix.{Matrix, Vector, Within, Upto, matrix_equal, matrix_zero}
 use Rattle.algebra.specs.Modular.{residue, residue_injective, residue_zero, modulo}

@@ -5,7 +5,7 @@ use Rattle.std.proofs.Math.Nat.{mod-mod}
 use Rattle.forms.specs.Numbers.{total}
 use Rattle.forms.specs.Matrices.{field_product}
 use Rattle.forms.specs.Words.{FieldEqual}
-use Rattle.forms.proofs.Rings.{field_of_equal, field_of_product}
+use Rattle.forms.specs.Rings.{field_of_equal, field_of_product}
 use Rattle.algebra.specs.Matrix.{product}
 use Rattle.algebra.specs.Modular.{modulo}
 use Rattle.matrices.specs.Filling.{filled, filled_inside}

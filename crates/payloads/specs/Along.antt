@@ -12,7 +12,7 @@ use Rattle.algebra.specs.Series.{constant, cons}
 use Rattle.algebra.specs.Polynomial.{Polynomial, polynomials, Monic, one_series, constant_below}
 use Rattle.algebra.specs.Divides.{Divides}
 use Rattle.forms.specs.Numbers.{total}
-use Rattle.forms.proofs.Tests.{total_suc}
+use Rattle.forms.specs.Tests.{total_suc}
 use Rattle.elimination.specs.Form.{Block, CompanionAt, Dividing, Form}
 
 total_front : (n : ℕ) (g : ℕ → ℕ) → total (suc n) g ≡ g 0 + total n (λ i. g (suc i))

@@ -8,14 +8,12 @@ use Rattle.std.proofs.Math.Nat.{mod_self}
 use Rattle.std.proofs.Math.Decide.{ℕ_discrete, dec_lt, dec_le}
 use native.Mathlib.Omega.{arith}
 use Rattle.forms.specs.Numbers.{at}
-use Rattle.forms.proofs.Tests.{total_suc, equal_holds, cond_holds, cond_fails}
+use Rattle.forms.specs.Tests.{total_suc, equal_holds, cond_holds, cond_fails}
 use Rattle.forms.specs.Polynomials.{Coefficients}
 use Rattle.forms.specs.Matrices.{unit}
 use Rattle.forms.specs.ClosedForms.{opposite}
-use Rattle.forms.specs.BlockIndices.{degrees, start, block, last, position, is_head}
-use Rattle.forms.proofs.BlockIndices.{start_rising, block_below, block_in, block_is, block_next, head_start, head_equal, head_of, head_position, last_below, last_after, last_equal, last_of, suc_last, zero_is_head}
-use Rattle.forms.specs.BlockPermutation.{ones, to, from}
-use Rattle.forms.proofs.BlockPermutation.{to_head, to_other_below, to_permutes}
+use Rattle.forms.specs.BlockIndices.{degrees, start, block, last, position, is_head, start_rising, block_below, block_in, block_is, block_next, head_start, head_equal, head_of, head_position, last_below, last_after, last_equal, last_of, suc_last, zero_is_head}
+use Rattle.forms.specs.BlockPermutation.{ones, to, from, to_head, to_other_below, to_permutes}
 use Rattle.forms.proofs.FrobeniusEntries.{frobenius_last, frobenius_head, frobenius_next}
 use Rattle.matrices.specs.Matrices.{cell}
 use Rattle.basis.specs.State.{Array}

@@ -9,13 +9,11 @@ use Rattle.std.proofs.Math.Decide.{ℕ_discrete}
 use native.Mathlib.Omega.{arith}
 use Rattle.std.proofs.Math.Dec.{T, leb→le}
 use Rattle.forms.specs.Numbers.{at, total}
-use Rattle.forms.proofs.Tests.{total_suc, total_equal, equal_holds, cond_holds, cond_fails}
+use Rattle.forms.specs.Tests.{total_suc, total_equal, equal_holds, cond_holds, cond_fails}
 use Rattle.forms.specs.Polynomials.{Coefficients}
 use Rattle.forms.specs.Matrices.{Entries}
-use Rattle.forms.specs.BlockIndices.{degrees, start, block, last, position, is_head}
-use Rattle.forms.proofs.BlockIndices.{head_start, head_of, head_position, head_row, last_below, suc_last}
-use Rattle.forms.specs.BlockPermutation.{to, from}
-use Rattle.forms.proofs.BlockPermutation.{to_head, to_other_below, one_degree, to_permutes}
+use Rattle.forms.specs.BlockIndices.{degrees, start, block, last, position, is_head, head_start, head_of, head_position, head_row, last_below, suc_last}
+use Rattle.forms.specs.BlockPermutation.{to, from, to_head, to_other_below, one_degree, to_permutes}
 use Rattle.forms.specs.ClosedForms.{opposite, P_row, PI_column, Q_column, QI_row, closed_P, closed_PI, closed_Q, closed_QI}
 use Rattle.matrices.specs.Matrices.{cell}
 use Rattle.basis.specs.State.{Array, State}

@@ -14,17 +14,15 @@ use Rattle.algebra.specs.Matrix.{Matrix}
 use Rattle.algebra.specs.Polynomial.{Polynomial, polynomials, Monic, zero_coefficient}
 use Rattle.algebra.specs.Modular.{Residue, residue, residue_value, residue_injective, residue_of_value, residue_remainder, residue_zero, residue_one, residue_minus, modulo, Prime, positive}
 use Rattle.forms.specs.Numbers.{total}
-use Rattle.forms.proofs.Tests.{total_equal, equal_holds, cond_holds, cond_fails}
+use Rattle.forms.specs.Tests.{total_equal, equal_holds, cond_holds, cond_fails}
 use Rattle.forms.specs.Polynomials.{Coefficients, degree}
 use Rattle.forms.specs.Matrices.{unit}
 use Rattle.forms.specs.Frobenius.{companion, blocks, frobenius}
 use Rattle.forms.specs.Words.{PolynomialDivides}
-use Rattle.forms.specs.Bounds.{Short}
-use Rattle.forms.proofs.Bounds.{degree_is}
-use Rattle.forms.proofs.Remainders.{zero_value, numbers_divide}
+use Rattle.forms.specs.Bounds.{Short, degree_is}
+use Rattle.forms.specs.Remainders.{zero_value, numbers_divide}
 use Rattle.forms.specs.BlockIndices.{degrees}
-use Rattle.forms.specs.SmithDiagonals.{SmithDiagonal}
-use Rattle.forms.proofs.SmithDiagonals.{chain_diagonal}
+use Rattle.forms.specs.SmithDiagonals.{SmithDiagonal, chain_diagonal}
 use Rattle.forms.proofs.FrobeniusEntries.{blocks_first, blocks_behind, blocks_above, blocks_below}
 use Rattle.matrices.specs.Matrices.{cell, matrix, matrix_inside, FieldMatrix}
 use Rattle.elimination.specs.Form.{Block, CompanionAt, Form}

@@ -7,8 +7,8 @@ use Prim.Native.Nat.{ℕ, suc, ◌+◌, ◌*◌, ◌-◌, ◌%◌, ◌≤◌, �
 use Rattle.std.proofs.Math.Decide.{dec_lt}
 use Rattle.algebra.specs.Modular.{Prime}
 use Rattle.forms.specs.Numbers.{at, total, order_limit}
-use Rattle.forms.proofs.Tests.{total_equal}
-use Rattle.forms.proofs.Primes.{prime_means, prime_positive}
+use Rattle.forms.specs.Tests.{total_equal}
+use Rattle.forms.specs.Primes.{prime_means, prime_positive}
 use Rattle.forms.specs.Polynomials.{Coefficients, degree}
 use Rattle.forms.specs.Matrices.{Entries, PolynomialEntries, unit, diagonal, field_product}
 use Rattle.forms.specs.Matrices as definitions
@@ -17,11 +17,10 @@ use Rattle.forms.specs.Certificate.{Certificate, payload, joined, size}
 use Rattle.forms.proofs.Records.{ten_cases}
 use Rattle.forms.specs.Words.{FieldEqual, PolynomialDivides, Residues, LaidOut, Certified}
 use Rattle.forms.proofs.Payloads.{MA_residues}
-use Rattle.forms.proofs.Bounds.{degree_limited}
-use Rattle.forms.proofs.Rings.{field_of_product, equal_of_field}
-use Rattle.forms.proofs.Inverses.{inverse_field}
-use Rattle.forms.specs.Listed.{listed, polynomials_listed}
-use Rattle.forms.proofs.Listed.{matrix_of_listed, matrix_listed_residues}
+use Rattle.forms.specs.Bounds.{degree_limited}
+use Rattle.forms.specs.Rings.{field_of_product, equal_of_field}
+use Rattle.forms.specs.Inverses.{inverse_field}
+use Rattle.forms.specs.Listed.{listed, polynomials_listed, matrix_of_listed, matrix_listed_residues}
 use Rattle.forms.specs.LegalRequests.{Legal}
 use Rattle.forms.specs.ClosedForms.{closed_P, closed_PI, closed_Q, closed_QI}
 use Rattle.forms.specs.Certifying.{Decomposes, closed_certificate}

@@ -8,7 +8,7 @@ use Rattle.algebra.specs.Division as algebra
 use Rattle.algebra.specs.Division.{division_unique, divides_exactly}
 use Rattle.algebra.specs.Modular.{Prime, modulo}
 use Rattle.algebra.specs.PrimeField.{prime_field}
-use Rattle.forms.proofs.Tests.{equal_holds}
+use Rattle.forms.specs.Tests.{equal_holds}
 use Rattle.polynomials.specs.declared.Polynomial.{Polynomial}
 use Rattle.polynomials.specs.declared.Division.{Division}
 use Rattle.polynomials.specs.Canonical.{polynomial, Canonical, canonical_determined, canonical_below, canonical_degree, canonical_zero}

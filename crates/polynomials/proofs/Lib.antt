@@ -1,2 +1,2 @@
-pub mod LongDivision
+-- The theorems on which the edit of a definition bears.
 pub mod Divisibility

@@ -8,7 +8,7 @@ use Rattle.algebra.specs.Polynomial.{Below, polynomials, zero_of_below}
 use Rattle.algebra.specs.Degree.{Degree, degree_nonzero}
 use Rattle.algebra.specs.Modular.{residue, modulo, residue_zero, residue_injective}
 use Rattle.forms.specs.Numbers.{at, order_limit}
-use Rattle.forms.proofs.Rings as rings
+use Rattle.forms.specs.Rings as rings
 use Rattle.polynomials.specs.declared.Polynomial.{Polynomial}
 
 -- as many coefficients as a polynomial of the largest degree has

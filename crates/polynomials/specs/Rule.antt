@@ -7,7 +7,7 @@ use Rattle.algebra.specs.Modular.{residue, modulo}
 use Rattle.forms.specs.Numbers.{at}
 use Rattle.forms.specs.Polynomials.{Coefficients, degree, divides}
 use Rattle.forms.specs.Bounds.{Short}
-use Rattle.forms.proofs.Remainders.{test_divides}
+use Rattle.forms.specs.Remainders.{test_divides}
 use Rattle.polynomials.specs.declared.Polynomial.{Polynomial}
 use Rattle.polynomials.specs.Canonical.{polynomial, polynomial_of_at}
 

@@ -2,7 +2,7 @@
 use Rattle.std.specs.Prelude.{ℕ, suc, ◌+◌, ◌*◌, ◌≤◌, ◌<◌}
 use Rattle.std.proofs.Common.{suc-le-suc, suc-mul, mul-le-mul, le_refl, arith}
 use Rattle.forms.specs.Numbers.{order_limit}
-use Rattle.forms.proofs.Listed.{row_place}
+use Rattle.forms.specs.Listed.{row_place}
 
 -- (i, j) is an entry of a matrix of order n
 pub record Inside (n i j : ℕ) : Type 0 where

@@ -6,7 +6,7 @@ use Rattle.std.proofs.Math.Decide.{ℕ_discrete, dec_lt, dec_le}
 use Rattle.std.proofs.Math.Nat.{add_assoc}
 use Rattle.forms.specs.Numbers.{at, total, order_limit}
 use Rattle.forms.specs.Polynomials.{Coefficients, convolution}
-use Rattle.forms.proofs.Tests.{cond_holds, cond_fails, equal_holds, total_equal, total_short}
+use Rattle.forms.specs.Tests.{cond_holds, cond_fails, equal_holds, total_equal, total_short}
 use Rattle.forms.specs.Bounds.{Short}
 
 -- as many coefficients as a product of the rules has at most

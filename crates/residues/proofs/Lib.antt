@@ -1,2 +1,3 @@
+-- The theorems on which the edit of a definition bears.
 pub mod Primes
 pub mod TableRule

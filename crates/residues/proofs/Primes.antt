@@ -6,7 +6,7 @@ use Rattle.std.specs.Bool.{beq}
 use Rattle.std.proofs.Math.Decide.{dec_lt}
 use Rattle.std.proofs.lemmas.Bool.{lt-leb}
 use Rattle.forms.specs.Numbers.{every, prime}
-use Rattle.forms.proofs.Tests.{every_at}
+use Rattle.forms.specs.Tests.{every_at}
 use Rattle.residues.specs.Primes.{sieve}
 
 -- two Bools that are the same

@@ -3,7 +3,7 @@ use Rattle.std.specs.Prelude.{Bool, ◌&&◌, ℕ, zero, suc, ◌*◌, ◌%◌, 
 use Rattle.std.proofs.Common.{arith, eqb→eq, ltb→lt}
 use Rattle.forms.specs.Numbers.{every}
 use Rattle.forms.specs.Reciprocals.{InverseOf}
-use Rattle.forms.proofs.Tests.{and_parts, every_at}
+use Rattle.forms.specs.Tests.{and_parts, every_at}
 use Rattle.residues.specs.Table.{reciprocals}
 
 -- what is asked of the entry r at the index x: r is below 251, x r is 1 modulo 251, and 0 stands at 0

@@ -8,8 +8,8 @@ use Rattle.algebra.specs.Modular.{modulo}
 use Rattle.forms.specs.Numbers.{at}
 use Rattle.forms.specs.Polynomials.{degree, divides}
 use Rattle.forms.specs.Matrices.{diagonal}
-use Rattle.forms.proofs.Primes.{prime_positive}
-use Rattle.forms.proofs.Bounds.{diagonal_short}
+use Rattle.forms.specs.Primes.{prime_positive}
+use Rattle.forms.specs.Bounds.{diagonal_short}
 use Rattle.polynomials.specs.declared.Polynomial.{Polynomial}
 use Rattle.polynomials.specs.Canonical.{polynomial, Canonical}
 use Rattle.polynomials.specs.Taking.{TakenFrom, taken_canonical}

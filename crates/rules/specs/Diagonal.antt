@@ -4,8 +4,8 @@ use Rattle.std.proofs.Common.{sym, ◌∙◌, ap, arith, eqb→eq}
 use Rattle.forms.specs.Numbers.{at, prime, order_limit}
 use Rattle.forms.specs.Polynomials.{Coefficients, degree, monic}
 use Rattle.forms.specs.Matrices.{diagonal}
-use Rattle.forms.proofs.Tests.{cond_holds, cond_fails, equal_holds}
-use Rattle.forms.proofs.Bounds.{diagonal_at, degree_limited}
+use Rattle.forms.specs.Tests.{cond_holds, cond_fails, equal_holds}
+use Rattle.forms.specs.Bounds.{diagonal_at, degree_limited}
 
 -- the payload of D
 pub record DiagonalPayload (n : ℕ) (d : List ℕ) : Type 0 where

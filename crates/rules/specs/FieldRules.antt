@@ -7,7 +7,7 @@ use Rattle.forms.specs.Numbers.{every, order_limit}
 use Rattle.forms.specs.Matrices as definitions
 use Rattle.forms.specs.Matrices.{Entries, unit, field_product}
 use Rattle.forms.specs.Rules.{field_equal}
-use Rattle.forms.proofs.Rings.{field, field_inside, field_of_product, field_of_unit}
+use Rattle.forms.specs.Rings.{field, field_inside, field_of_product, field_of_unit}
 use Rattle.matrices.specs.Loading.{loaded, loaded_is}
 use Rattle.matrices.specs.Matrices.{cell, matrix, matrix_inside, FieldMatrix}
 use Rattle.matrices.specs.Products.{Multiplied}

@@ -5,7 +5,7 @@ use Rattle.forms.specs.Numbers.{at}
 use Rattle.forms.specs.Polynomials.{Coefficients, degree}
 use Rattle.forms.specs.Matrices.{matrix, diagonal, unit}
 use Rattle.forms.specs.Frobenius.{companion, blocks, frobenius}
-use Rattle.forms.proofs.Tests.{cond_holds, cond_fails, equal_holds}
+use Rattle.forms.specs.Tests.{cond_holds, cond_fails, equal_holds}
 use Rattle.forms.proofs.Bounds.{frobenius_small}
 use Rattle.forms.proofs.FrobeniusEntries.{blocks_first, blocks_behind, blocks_above, blocks_below}
 use Rattle.rules.specs.Diagonal.{DiagonalPayload}

@@ -1,12 +1,12 @@
--- P(XE_A) row by row: times row l of XE_A, a coefficient of P adds itself in the column l, and a multiple of row l of -A.
+-- P(XE-A) row by row: times row l of XE-A, a coefficient of P adds itself in the column l, and a multiple of row l of -A.
 use Rattle.std.specs.Prelude.{◌≡◌, refl, Bool, true, false, cond, List, [], ℕ, ◌+◌, ◌*◌, ◌-◌, ◌≤◌, ◌<◌, eqb, length, get_or, set}
 use Rattle.std.proofs.Common.{sym, ◌∙◌, ap, ap₂, add-zero, zero-add, mul-zero, mul-one, mul-le-mul, arith, eqb→eq}
 use Rattle.std.proofs.Math.Decide.{ℕ_discrete, dec_le}
 use Rattle.forms.specs.Numbers.{at, order_limit}
 use Rattle.forms.specs.Polynomials.{Coefficients}
 use Rattle.forms.specs.Matrices.{Entries, matrix, unit, characteristic}
-use Rattle.forms.proofs.Tests.{cond_holds, cond_fails, equal_holds}
-use Rattle.forms.proofs.Bounds.{characteristic_short}
+use Rattle.forms.specs.Tests.{cond_holds, cond_fails, equal_holds}
+use Rattle.forms.specs.Bounds.{characteristic_short}
 use Rattle.products.specs.Sums.{product_limit, coefficients, coefficients_small, shifted, shifted_inside, shifted_outside, monomial, monomial_same, monomial_other, monomial_none, monomial_small, plus_monomial, products}
 use Rattle.products.specs.Products.{ByteEntries}
 use Rattle.products.specs.Lines.{RoomFor, PlusLine, line_one, line_room, line_products_room}
@@ -26,14 +26,14 @@ pub record AddingField (p n x k l : ℕ) (a : List ℕ) (line : List (List ℕ))
   pub row : l < n
   pub has_room : RoomFor n 0 line
 
--- f, of n coefficients from start on, times row l of XE_A is added to a row
+-- f, of n coefficients from start on, times row l of XE-A is added to a row
 pub record AddingMoved (p n start l : ℕ) (s a : List ℕ) (line : List (List ℕ)) : Type 0 where
   pub payload : FieldPayload p n a
   pub row : l < n
   pub left_there : start + n ≤ length s
   pub has_room : RoomFor n (n * product_limit) line
 
--- row i of P(XE_A), from the payloads of P and A
+-- row i of P(XE-A), from the payloads of P and A
 pub record Moving (p n i : ℕ) (s a : List ℕ) : Type 0 where
   pub payload : FieldPayload p n a
   pub row : i < n
@@ -60,7 +60,7 @@ characteristic_bytes p A limited i j k = at_tests (eqb k 0) (eqb k 1)
 pub moved_room : (p n start l : ℕ) (s a : List ℕ) (before line : List (List ℕ)) (k : ℕ) → AddingMoved p n start l s a before → ((i : ℕ) → at s i ≤ 255) → k < n → PlusLine n line before (λ j. products k (coefficients n start s) (characteristic p (matrix n a) l j)) → RoomFor n product_limit line
 moved_room p n start l s a before line k h bytes m q = line_products_room n _ _ k before line q (coefficients_small n start s bytes) (characteristic_bytes p (matrix n a) h.payload.limited l) m h.has_room
 
--- x X^k times row l of XE_A: of its columns, l has x at k + 1, and each has x times that of -A at k
+-- x X^k times row l of XE-A: of its columns, l has x at k + 1, and each has x times that of -A at k
 abbrev pub diagonal_term : ℕ → ℕ → ℕ → ℕ → Coefficients
 diagonal_term x k l j = monomial (k + 1) (x * unit l j)
 

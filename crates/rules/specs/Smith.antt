@@ -1,4 +1,4 @@
--- Rule 6 without its last factor: once Q QI = E, P(XE_A)Q = D is P(XE_A) = D QI.
+-- Rule 6 without its last factor: once Q QI = E, P(XE-A)Q = D is P(XE-A) = D QI.
 use Rattle.std.specs.Prelude.{◌≡◌, ◌↔◌, List, ℕ, suc, ◌*◌, ◌≤◌, T}
 use Rattle.std.proofs.Common.{sym, ◌∙◌, ap, arith}
 use Rattle.algebra.specs.Ring.{Ring}
@@ -9,10 +9,9 @@ use Rattle.algebra.specs.Modular.{modulo, Prime, positive}
 use Rattle.forms.specs.Matrices.{Entries, PolynomialEntries, polynomial_matrix, diagonal, polynomial_unit, diagonal_matrix, characteristic, polynomial_product}
 use Rattle.forms.specs.Rules.{polynomial_equal}
 use Rattle.forms.specs.Words.{PolynomialEqual}
-use Rattle.forms.specs.Bounds.{ShortEntries}
-use Rattle.forms.proofs.Bounds.{polynomial_matrix_short, characteristic_short, diagonal_matrix_short, product_short, smith_product_short, inverse_product_short, polynomial_unit_short}
-use Rattle.forms.proofs.Rings.{Over, lift_over, product_over, over_equal, equal_over}
-use Rattle.forms.proofs.Inverses.{polynomial_inverse}
+use Rattle.forms.specs.Bounds.{ShortEntries, polynomial_matrix_short, characteristic_short, diagonal_matrix_short, product_short, smith_product_short, inverse_product_short, polynomial_unit_short}
+use Rattle.forms.specs.Rings.{Over, lift_over, product_over, over_equal, equal_over}
+use Rattle.forms.specs.Inverses.{polynomial_inverse}
 use Rattle.forms.proofs.RulesMean.{polynomial_equal_means}
 use Rattle.polynomials.specs.Rule.{same_answer}
 

@@ -1,4 +1,4 @@
--- The entries of D QI, each one product of polynomials, and the test of rule 6 in code, which compares those of P(XE_A) with them.
+-- The entries of D QI, each one product of polynomials, and the test of rule 6 in code, which compares those of P(XE-A) with them.
 use Rattle.std.specs.Prelude.{◌≡◌, refl, ◌≢◌, Bool, List, ℕ, zero, suc, ◌+◌, ◌*◌, ◌-◌, ◌≤◌, ◌<◌, eqb, length, replicate}
 use Rattle.std.proofs.Common.{sym, ◌∙◌, ap, ap₂, add-zero, zero-add, zero-mul, arith, eqb→eq}
 use Rattle.std.proofs.Math.Path.{fun_ext}
@@ -6,7 +6,7 @@ use Rattle.std.proofs.Math.Decide.{ℕ_discrete}
 use Rattle.forms.specs.Numbers.{at, total, order_limit}
 use Rattle.forms.specs.Polynomials.{Coefficients, convolution}
 use Rattle.forms.specs.Matrices.{PolynomialEntries, matrix, polynomial_matrix, diagonal, diagonal_matrix, characteristic, polynomial_product}
-use Rattle.forms.proofs.Tests.{cond_holds, cond_fails, equal_holds, total_suc, total_equal, total_of_zeros}
+use Rattle.forms.specs.Tests.{cond_holds, cond_fails, equal_holds, total_suc, total_equal, total_of_zeros}
 use Rattle.products.specs.Indices.{Inside}
 use Rattle.products.specs.Sums.{term_limit, coefficients, Plus}
 use Rattle.products.specs.Products.{same_modulo, Holding, holding_nothing, holding_plus, entry_coefficients}
@@ -26,7 +26,7 @@ diagonal_entry n f Q i j l = fun_ext (λ k.
     total_single n _ i l (λ m o. total_of_zeros (suc k) _ (λ a q. ap (λ (x : ℕ). x * Q m j (k - a)) (cond_fails (eqb i m) (f i a) 0 (λ t. o (sym (eqb→eq i m t)))) ∙ zero-mul _))
     ∙ total_equal (suc k) _ _ (λ a q. ap (λ (x : ℕ). x * Q i j (k - a)) (cond_holds (eqb i i) (f i a) 0 (equal_holds i i refl))))
 
--- P(XE_A) and D QI, from the payloads
+-- P(XE-A) and D QI, from the payloads
 abbrev pub moved_entries : ℕ → ℕ → List ℕ → List ℕ → PolynomialEntries
 moved_entries p n s a = polynomial_product n (polynomial_matrix n s) (characteristic p (matrix n a))
 
@@ -63,6 +63,6 @@ pub record SmithPayloads (p n : ℕ) (s a d t : List ℕ) : Type 0 where
   pub small : (k : ℕ) → at a k < p
   pub limited : p ≤ 255
 
--- the entry (i, j) of P(XE_A) is that of D QI
+-- the entry (i, j) of P(XE-A) is that of D QI
 abbrev pub smith_entry_test : ℕ → ℕ → List ℕ → List ℕ → List ℕ → List ℕ → ℕ → ℕ → Bool
 smith_entry_test p n s a d t i j = same_modulo p (suc (2 * n)) (moved_entries p n s a i j) (returned_entries n d t i j)

@@ -1,4 +1,4 @@
-// Rule 6, P(XE_A)Q = D: once rule 5 has held it is P(XE_A) = D QI, which takes no product of polynomial matrices.
+// Rule 6, P(XE-A)Q = D: once rule 5 has held it is P(XE-A) = D QI, which takes no product of polynomial matrices.
 ghost use Rattle.std.specs.Prelude.{◌≡◌, suc, ◌*◌, ◌<◌};
 ghost use Rattle.forms.specs.Numbers.{at};
 ghost use Rattle.forms.specs.Polynomials.{convolution};
@@ -30,7 +30,7 @@ fn add_field_row(line: &mut Line, x: u32, k: usize, field: &[u8], l: usize, n: u
     }
 }
 
-// Adds f times row l of XE_A to the row, where f has the n coefficients of `left` from `start` on.
+// Adds f times row l of XE-A to the row, where f has the n coefficients of `left` from `start` on.
 fn add_moved(line: &mut Line, left: &[u8], start: usize, field: &[u8], l: usize, n: usize, p: u32)
     requires { AddingMoved p n start l left.now field.now line.old }
     ensures { PlusLine n line.new line.old (λ j. convolution (coefficients n start left.now) (characteristic p (matrix n field.now) l j)) }
@@ -46,7 +46,7 @@ fn add_moved(line: &mut Line, left: &[u8], start: usize, field: &[u8], l: usize,
     }
 }
 
-// Row i of P(XE_A).
+// Row i of P(XE-A).
 fn moved_line(left: &[u8], field: &[u8], i: usize, n: usize, p: u32) -> Line
     requires { Moving p n i left.now field.now }
     ensures { HoldingLine n result (moved_entries p n left.now field.now i) }

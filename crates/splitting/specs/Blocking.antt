@@ -8,7 +8,7 @@ use Rattle.algebra.specs.Ring.{zero_plus, plus_zero}
 use Rattle.algebra.specs.Sum.{delta, delta_same, delta_other}
 use Rattle.algebra.specs.Modular.{residue, modulo, residue_one}
 use Rattle.matrices.specs.Matrices.{cell, vector, matrix, vector_inside, vector_upto, matrix_inside, FieldRow, zero_row, zero_row_at}
-use Rattle.forms.proofs.Primes.{prime_means}
+use Rattle.forms.specs.Primes.{prime_means}
 use Rattle.matrices.specs.Rows.{unit_row, unit_row_at}
 use Rattle.basis.specs.Frame.{Frame, Window, Change, change_then}
 use Rattle.basis.specs.Shear.{OnColumns, OnRows}

@@ -10,7 +10,7 @@ use Rattle.algebra.specs.Modular.{residue, modulo, residue_times, residue_remain
 use Rattle.algebra.specs.Action.{power, power_suc}
 use Rattle.matrices.specs.Filling.{filled, filled_inside}
 use Rattle.matrices.specs.Matrices.{cell, vector, matrix, vector_inside, vector_upto, matrix_inside, matrix_within, zero_row}
-use Rattle.forms.proofs.Rings.{total_residue}
+use Rattle.forms.specs.Rings.{total_residue}
 use Rattle.matrices.specs.Rows.{plus_row}
 use Rattle.splitting.specs.Killing.{corner, Kills, kills_by_powers, unit_upto, power_none, power_one}
 use Rattle.basis.specs.Searches.{column_of, column_of_at}

@@ -4,7 +4,7 @@ use Rattle.std.proofs.Common.{sym, ◌∙◌, ap, suc-add, zero-add, arith}
 use Rattle.forms.specs.Answers.{Asked, fine, refuse, ask, each}
 use Rattle.forms.specs.Certificate.{Certificate}
 use Rattle.forms.specs.Rules.{rule}
-use Rattle.forms.proofs.Tests.{ask_fine, fine_then, refuse_then, each_fine}
+use Rattle.forms.specs.Tests.{ask_fine, fine_then, refuse_then, each_fine}
 use Rattle.products.specs.Searches.{failing}
 
 -- the first k rules

@@ -10,8 +10,8 @@ use Rattle.forms.specs.Certificate.{size, offset, part}
 use Rattle.forms.specs.Reading.{reading, certificate_of}
 use Rattle.forms.specs.Rules.{rule}
 use Rattle.forms.specs.Words.{LaidOut}
-use Rattle.forms.proofs.Tests.{every_at}
-use Rattle.forms.proofs.Primes.{prime_means, prime_limited}
+use Rattle.forms.specs.Tests.{every_at}
+use Rattle.forms.specs.Primes.{prime_means, prime_limited}
 use Rattle.forms.proofs.Records.{offset_suc}
 use Rattle.forms.proofs.Layouts.{records_read, reading_laid_out}
 use Rattle.forms.proofs.Payloads.{MA_residues, DF_residues, PL_residues, PI_residues, QR_residues, QI_residues, FB_residues, TB_residues, TI_residues}

@@ -11,8 +11,8 @@ use Rattle.forms.specs.Frobenius.{frobenius}
 use Rattle.forms.specs.Certificate.{part}
 use Rattle.forms.specs.Reading.{reading, certificate_of}
 use Rattle.forms.specs.Rules.{field_equal, polynomial_equal, rule}
-use Rattle.forms.proofs.Tests.{total_equal}
-use Rattle.forms.proofs.Primes.{prime_means}
+use Rattle.forms.specs.Tests.{total_equal}
+use Rattle.forms.specs.Primes.{prime_means}
 use Rattle.products.specs.Searches.{failing}
 use Rattle.rules.specs.Diagonal.{Degrees}
 use Rattle.rules.specs.Smith.{smith_test}

@@ -6,7 +6,7 @@ use Rattle.forms.specs.Answers.{Asked, fine, refuse}
 use Rattle.forms.specs.Reading.{reading, certificate_of}
 use Rattle.forms.specs.Rules.{rules, verdict_of, verdict}
 use Rattle.forms.specs.Operations.{Checks}
-use Rattle.forms.proofs.Promises.{checks_verdict}
+use Rattle.forms.specs.Promises.{checks_verdict}
 use Rattle.forms.specs.declared.Fault.{Fault}
 use Rattle.forms.specs.declared.Fault.TheVariants.{Rule}
 use Rattle.forms.specs.declared.Verdict.{Verdict}

@@ -1,6 +1,6 @@
 -- A refusal leaves the output as it was; else what is written is a certificate of the matrix.
 use Rattle.std.proofs.Common.{arith, sym, ◌∙◌, ap, length}
-use Rattle.forms.proofs.Primes.{prime_limited}
+use Rattle.forms.specs.Primes.{prime_limited}
 use Rattle.forms.proofs.LegalRequests.{asked_legal}
 use Rattle.certificate.specs.ReadRecords.{limits_asked}
 use Rattle.analysis.specs.Questions.{analyses_refused, analyses_written, asked_room}

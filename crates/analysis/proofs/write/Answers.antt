@@ -1,5 +1,5 @@
 -- The elimination and the tables of its blocks give a certificate, and its layout is what the records are.
-use Rattle.forms.proofs.Primes.{prime_positive}
+use Rattle.forms.specs.Primes.{prime_positive}
 use Rattle.elimination.specs.Reduced.{Reduced}
 use Rattle.matrices.specs.Loading.{loaded, loaded_field}
 use Rattle.analysis.specs.Loading.{loaded_holds}

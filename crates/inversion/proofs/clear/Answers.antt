@@ -1,6 +1,6 @@
 -- The entries passed, and the one in row j, are those of E; what the elimination has kept stays.
 use Rattle.std.proofs.Common.{mod-lt, arith, rules}
-use Rattle.forms.proofs.Primes.{prime_positive}
+use Rattle.forms.specs.Primes.{prime_positive}
 use Rattle.inversion.specs.Inversion.{pivot_ready, clearing_start, clearing_ready, clearing_turn, clearing_end}
 use Rattle.inversion.proofs.clear.Goals as goal
 

@@ -1,6 +1,6 @@
 -- After j turns j columns are those of E.
 use Rattle.std.proofs.Common.{arith, rules}
-use Rattle.forms.proofs.Primes.{prime_means, prime_positive}
+use Rattle.forms.specs.Primes.{prime_means, prime_positive}
 use Rattle.inversion.specs.Inversion.{eliminating_start, eliminating_none, eliminating_end}
 use Rattle.inversion.proofs.inverse.Goals as goal
 

@@ -1,6 +1,6 @@
 -- The loop: the first b entries of D are put.
 use Rattle.std.proofs.Common.{rules, arith, ◌≡◌, refl, sym, ◌+◌, length, take, length-take-le}
-use Rattle.forms.proofs.Listed.{listed_length}
+use Rattle.forms.specs.Listed.{listed_length}
 use Rattle.writing.specs.Put.{puts_bytes}
 use Rattle.entries.specs.Listing.{filled_listed}
 use Rattle.entries.specs.PutRows.{rows_start, rows_room, rows_turn, rows_end}

@@ -1,8 +1,7 @@
 -- Zeros are put for the whole line, and over them the first c entries.
 use Rattle.std.proofs.Common.{rules, arith, ◌≡◌, refl, sym, ℕ, ◌*◌, mul-le-mul, length, take, replicate, length-take-le}
 use Rattle.forms.specs.Numbers.{order_limit}
-use Rattle.forms.specs.Listed.{listed}
-use Rattle.forms.proofs.Listed.{listed_length, row_place}
+use Rattle.forms.specs.Listed.{listed, listed_length, row_place}
 use Rattle.entries.specs.Coefficients.{closed_entry}
 use Rattle.entries.specs.PutEntries.{short_put_whole, zeros_there, line_start, line_zeros, line_turn, line_end}
 use Rattle.payloads.proofs.put_line.Goals as goal

@@ -1,7 +1,6 @@
 -- The loop: the first i rows are put.
 use Rattle.std.proofs.Common.{rules, arith, ◌≡◌, refl, sym, ◌∙◌, ap, length, take, get_or, length-take-le}
-use Rattle.forms.specs.Listed.{listed}
-use Rattle.forms.proofs.Listed.{listed_length}
+use Rattle.forms.specs.Listed.{listed, listed_length}
 use Rattle.writing.specs.Put.{puts_bytes}
 use Rattle.entries.specs.Listing.{taken_listed}
 use Rattle.entries.specs.PutRows.{rows_start, rows_room, rows_turn, rows_end}

@@ -1,7 +1,6 @@
 -- The loop: the first r rows of n entries are put.
 use Rattle.std.proofs.Common.{ℕ, List, ◌+◌, ◌*◌, ◌≤◌, length, rules, arith, refl, mul_assoc}
-use Rattle.forms.specs.Listed.{listed}
-use Rattle.forms.proofs.Listed.{listed_length}
+use Rattle.forms.specs.Listed.{listed, listed_length}
 use Rattle.forms.specs.Certificate.{joined}
 use Rattle.entries.specs.Coefficients.{closed_entry}
 use Rattle.entries.specs.PutRows.{Rows, joined_rows_length, rows_start, rows_room, rows_turn, rows_end}

@@ -1,7 +1,7 @@
 -- `polynomials::divide` meets its contract: g is q f + r in every turn, and r has at most `top` coefficients.
 use Rattle.std.proofs.Common.{refl, mod-lt, le_of_lt, arith, rules}
-use Rattle.forms.proofs.Primes.{prime_means, prime_positive}
-use Rattle.polynomials.proofs.LongDivision.{dividing_start, dividing_turn, dividing_end}
+use Rattle.forms.specs.Primes.{prime_means, prime_positive}
+use Rattle.polynomials.specs.LongDivision.{dividing_start, dividing_turn, dividing_end}
 use Rattle.polynomials.proofs.divide.Goals as goal
 
 pub bounds-divisor-lead : goal.bounds-divisor-lead

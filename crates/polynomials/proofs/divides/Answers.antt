@@ -1,5 +1,5 @@
 -- `polynomials::divides` meets its contract: the remainder has no coefficient exactly where f divides g.
-use Rattle.forms.proofs.Primes.{prime_means}
+use Rattle.forms.specs.Primes.{prime_means}
 use Rattle.polynomials.proofs.Divisibility.{divides_by_remainder}
 use Rattle.polynomials.proofs.divides.Goals as goal
 

@@ -1,6 +1,6 @@
 -- The row is the sum over the inner index, and after l turns each entry the sum of its first l terms.
 use Rattle.std.proofs.Common.{rules, arith}
-use Rattle.forms.proofs.Bounds.{polynomial_matrix_short}
+use Rattle.forms.specs.Bounds.{polynomial_matrix_short}
 use Rattle.products.specs.Products.{entry_coefficients, matrix_bytes}
 use Rattle.products.specs.Lines.{line_partial_none, line_partial_more, line_partial_all, line_partial_room}
 use Rattle.products.proofs.product_line.Goals as goal

@@ -1,8 +1,8 @@
 -- The constant term is 1 on the diagonal, and everything else is zero.
 use Rattle.std.proofs.Common.{sym, ◌∙◌, eqb, eqb→eq, arith}
 use Rattle.forms.specs.Matrices.{unit, polynomial_unit}
-use Rattle.forms.proofs.Tests.{cond_holds, cond_fails, equal_holds}
-use Rattle.forms.proofs.Bounds.{polynomial_unit_short}
+use Rattle.forms.specs.Tests.{cond_holds, cond_fails, equal_holds}
+use Rattle.forms.specs.Bounds.{polynomial_unit_short}
 use Rattle.products.proofs.unit_coefficient.Goals as goal
 
 pub returns-then-k-ne0 : goal.returns-then-k-ne0

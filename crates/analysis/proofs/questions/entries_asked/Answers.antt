@@ -2,7 +2,7 @@
 use Rattle.std.proofs.Common.{rules, arith, refl, sym, ◌∙◌, ap, ℕ, ◌≤◌, ◌<◌, le_antisymm, ltb, ltb→lt, lt→ltb}
 use Rattle.forms.specs.Numbers.{at}
 use Rattle.forms.specs.Answers.{ask, each}
-use Rattle.forms.proofs.Tests.{fine_ask, refuse_ask, each_fine, refuse_each}
+use Rattle.forms.specs.Tests.{fine_ask, refuse_ask, each_fine, refuse_each}
 use Rattle.certificate.specs.ReadRecords.{each_next}
 use Rattle.analysis.proofs.questions.entries_asked.Goals as goal
 

@@ -1,7 +1,7 @@
 -- The degree is below the number of coefficients, so the leading one is among them.
 use Rattle.std.proofs.Common.{◌+◌, ◌-◌, arith, length, length-take-le, sym}
 use Rattle.forms.specs.Numbers.{at}
-use Rattle.forms.proofs.Bounds.{degree_limited}
+use Rattle.forms.specs.Bounds.{degree_limited}
 use Rattle.blockform.proofs.listing.print_polynomial.Goals as goal
 
 pub overflow_add-end : goal.overflow_add-end

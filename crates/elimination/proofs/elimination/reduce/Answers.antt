@@ -3,7 +3,7 @@ use Rattle.std.proofs.Common.{rules, arith, ◌≡◌, refl}
 use Rattle.algebra.specs.Modular.{modulo}
 use Rattle.basis.specs.State.{frame}
 use Rattle.matrices.specs.Matrices.{matrix_within}
-use Rattle.forms.proofs.Primes.{prime_means}
+use Rattle.forms.specs.Primes.{prime_means}
 use Rattle.elimination.specs.Form.{stage_start}
 use Rattle.splitting.specs.Probe.{Split}
 use Rattle.splitting.specs.Blocking.{split_reach}

@@ -1,6 +1,6 @@
 -- The place of an entry is below n n, which is small.
 use Rattle.std.proofs.Common.{mul-le-mul, arith}
-use Rattle.forms.proofs.Listed.{row_place}
+use Rattle.forms.specs.Listed.{row_place}
 use Rattle.matrices.proofs.loading.field_entry.Goals as goal
 
 pub overflow_mul-result : goal.overflow_mul-result

@@ -1,6 +1,6 @@
 -- The loop keeps what `Euclid` says of the two remainders, and the second falls.
 use Rattle.std.proofs.Common.{arith, mod-lt}
-use Rattle.forms.proofs.Primes.{prime_means}
+use Rattle.forms.specs.Primes.{prime_means}
 use Rattle.residues.specs.Euclid.{euclid_start, euclid_fits, euclid_step, euclid_end}
 use Rattle.residues.proofs.residue.euclid.Goals as goal
 

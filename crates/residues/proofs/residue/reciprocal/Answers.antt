@@ -1,6 +1,6 @@
 -- Each return meets the contract by what the tests before it say.
 use Rattle.std.proofs.Common.{sym, ◌∙◌, subst, arith, T}
-use Rattle.forms.proofs.Primes.{prime_limited}
+use Rattle.forms.specs.Primes.{prime_limited}
 use Rattle.residues.specs.Answer.{bad_prime_refused, large_refused, residue_answered}
 use Rattle.residues.proofs.residue.reciprocal.Goals as goal
 

@@ -1,7 +1,7 @@
 -- Each f_i is tested at its degree, up to the first that is not monic.
 use Rattle.std.proofs.Common.{sym, ◌∙◌, eq-eqb, ne_eqb, rules, arith}
 use Rattle.forms.specs.Matrices.{diagonal}
-use Rattle.forms.proofs.Bounds.{degree_limited}
+use Rattle.forms.specs.Bounds.{degree_limited}
 use Rattle.matrices.specs.Filling.{every_start, every_turn}
 use Rattle.products.specs.Indices.{diagonal_size_small}
 use Rattle.rules.specs.Diagonal.{monic_at}

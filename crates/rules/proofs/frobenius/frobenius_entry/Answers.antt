@@ -1,7 +1,7 @@
 -- Once b blocks are passed, the entry is that at (row, column) of the blocks behind.
 use Rattle.std.proofs.Common.{◌∙◌, rules, arith}
 use Rattle.forms.specs.Matrices.{diagonal}
-use Rattle.forms.proofs.Bounds.{degree_limited}
+use Rattle.forms.specs.Bounds.{degree_limited}
 use Rattle.rules.specs.FrobeniusSearch.{behind_none, behind_here, behind_above, behind_below, behind_more, behind_all}
 use Rattle.rules.proofs.frobenius.frobenius_entry.Goals as goal
 

@@ -1,6 +1,6 @@
 -- The vector e_0 + e_j replaces e_0, and a pass follows.
 use Rattle.std.proofs.Common.{arith}
-use Rattle.forms.proofs.Primes.{prime_means}
+use Rattle.forms.specs.Primes.{prime_means}
 use Rattle.basis.specs.State.{given_whole, given_next}
 use Rattle.splitting.specs.Blocking.{joined_first, joined_field, join_ready, joined}
 use Rattle.splitting.proofs.blocks.join.Goals as goal

@@ -1,6 +1,6 @@
 -- Rules 1 to 3 in turn: each is asked on the payload of D where those before it hold.
 use Rattle.std.proofs.Common.{◌∙◌, lit<, arith}
-use Rattle.forms.proofs.Bounds.{degree_limited}
+use Rattle.forms.specs.Bounds.{degree_limited}
 use Rattle.forms.specs.Reading.{certificate_of}
 use Rattle.verdict.specs.NineRules.{held_none, searched_next, searched_stays, rule_held}
 use Rattle.verdict.specs.ReadPayloads.{header_there, payload_there, some_order, diagonal_payload, monic_payload}

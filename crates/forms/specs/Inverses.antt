@@ -12,7 +12,7 @@ use Rattle.algebra.specs.Modular.{Residue, modulo, Prime, positive}
 use Rattle.algebra.specs.PrimeField.{prime_field, prime_domain}
 use Rattle.forms.specs.Matrices.{Entries, PolynomialEntries, unit, polynomial_unit, field_product, polynomial_product}
 use Rattle.forms.specs.Words.{FieldEqual, PolynomialEqual}
-use Rattle.forms.proofs.Rings.{field, field_within, field_of_equal, equal_of_field, field_of_product, field_of_unit, Over, product_over, unit_over, over_equal, equal_over}
+use Rattle.forms.specs.Rings.{field, field_within, field_of_equal, equal_of_field, field_of_product, field_of_unit, Over, product_over, unit_over, over_equal, equal_over}
 
 module _ (p : ℕ) (prime : Prime p) (n : ℕ) where
   abbrev K : Ring (Residue p)

@@ -12,7 +12,7 @@ use Rattle.algebra.specs.Polynomial.{Polynomial, polynomials, scalar, scalar_zer
 use Rattle.algebra.specs.Characteristic.{scalars, scalars_within, scalars_identity}
 use Rattle.algebra.specs.Modular.{Residue, residue, residue_zero, residue_minus, residue_remainder, modulo}
 use Rattle.forms.specs.Matrices.{unit}
-use Rattle.forms.proofs.Rings.{field, field_within, field_inside, field_of_unit}
+use Rattle.forms.specs.Rings.{field, field_within, field_inside, field_of_unit}
 
 module _ (p : ℕ) where
   abbrev K : Ring (Residue p)

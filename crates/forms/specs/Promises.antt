@@ -8,7 +8,7 @@ use Rattle.forms.specs.Rules.{rule, rules, verdict_of, verdict}
 use Rattle.forms.specs.Words.{Certified, LaidOut}
 use Rattle.forms.specs.Operations.{analysis_asked, Analyses, Checks}
 use Rattle.forms.specs.Reciprocals.{reciprocal_asked, InverseOf, Reciprocates}
-use Rattle.forms.proofs.Tests.{refuse_not_fine, each_number}
+use Rattle.forms.specs.Tests.{refuse_not_fine, each_number}
 use Rattle.forms.specs.declared.Analysed.{Analysed}
 use Rattle.forms.specs.declared.Analysed.TheVariants.{Written, Refused as Unwritten}
 use Rattle.forms.specs.declared.Fault.TheVariants.{Form, Rule}

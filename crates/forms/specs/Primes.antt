@@ -4,7 +4,7 @@ use Rattle.std.proofs.Common.{◌∙◌, ap, arith, leb→le, le→leb, eqb→eq
 use Rattle.std.proofs.Math.Dec.{not_T}
 use Rattle.algebra.specs.Modular.{Prime}
 use Rattle.forms.specs.Numbers.{every, prime, prime_limit}
-use Rattle.forms.proofs.Tests.{and_parts, and_holds, every_at, every_holds, equal_holds}
+use Rattle.forms.specs.Tests.{and_parts, and_holds, every_at, every_holds, equal_holds}
 
 -- 2 + d does not divide p
 undivided_by : ℕ → ℕ → Bool

@@ -15,10 +15,9 @@ use Rattle.algebra.specs.Division.{Division, factor_below, divides_exactly}
 use Rattle.algebra.specs.Modular.{Residue, residue, residue_value, residue_equal, equal_residue, residue_injective, residue_remainder, residue_of_value, residue_plus, residue_times, residue_zero, residue_one, residue_minus, modulo}
 use Rattle.forms.specs.Polynomials.{Coefficients, prepend, degree, remainder, divides}
 use Rattle.forms.specs.Words.{PolynomialDivides}
-use Rattle.forms.proofs.Tests.{every_at, every_holds, equal_holds}
-use Rattle.forms.specs.Bounds.{Short}
-use Rattle.forms.proofs.Bounds.{degree_limited, degree_above}
-use Rattle.forms.proofs.Rings.{polynomial, polynomial_coefficient, convolution_residue}
+use Rattle.forms.specs.Tests.{every_at, every_holds, equal_holds}
+use Rattle.forms.specs.Bounds.{Short, degree_limited, degree_above}
+use Rattle.forms.specs.Rings.{polynomial, polynomial_coefficient, convolution_residue}
 
 module _ (p : ℕ) (positive : 0 < p) where
   abbrev K : Ring (Residue p)
