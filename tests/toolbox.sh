@@ -45,15 +45,14 @@ quietly() { "${@:2}" > "$1" 2>&1 < /dev/null || { cat "$1"; return 1; }; }
 # program NAME LOG: proves and builds the program crates/NAME, and leaves it at target/bin/NAME.
 program() {
     mkdir -p target/bin
-    (cd "crates/$1" && quietly "$2" rt run)
-    cp "crates/$1/out/$1" "target/bin/$1"
+    (cd "crates/$1" && rm -f "out/$1" && quietly "$2" rt run) && cp "crates/$1/out/$1" "target/bin/$1"
 }
 
 # archive LOG [RT]: proves and builds the static library blocks_c, and leaves it at target/staticlib/libblocks.a.
 archive() {
     mkdir -p target/staticlib
-    (cd crates/blocks_c && rm -f out/libblocks_c.a && quietly "$1" "${2:-rt}" lib)
-    cp crates/blocks_c/out/libblocks_c.a target/staticlib/libblocks.a
+    (cd crates/blocks_c && rm -f out/libblocks_c.a && quietly "$1" "${2:-rt}" lib) \
+        && cp crates/blocks_c/out/libblocks_c.a target/staticlib/libblocks.a
 }
 
 # proved_module FOLDER: writes FOLDER/blocks.ll, the LLVM module of the proved crate blocks_c that `rt lib` compiles, without the words

@@ -1,5 +1,5 @@
--- The starred matrices of document 01 as one table under one statement: p, n, A, D, F and the lead are as the document prints.
--- A certificate of each stands beside the table; one computed test over both turns into the statement.
+-- The starred matrices of document 01 are as the document prints: p, n, A, D, F and the lead.
+-- A certificate of each stands here; one computed test over these and the table of specs/Starred turns into the statement.
 use Rattle.std.specs.Prelude.{◌≡◌, refl, Bool, true, false, ◌&&◌, List, [], ◌∷◌, ℕ, T, eqb}
 use Rattle.std.proofs.Math.Path.{subst₃}
 use Rattle.std.proofs.Common.{eqb→eq}

@@ -1,5 +1,4 @@
--- From D, F and T, as an analysis delivers them, to a certificate: with the closed forms for P, Q and their inverses it is laid out as
--- the layout asks and it is a certificate of A.
+-- D, F and T, as an analysis delivers them, and the certificate that they make with the closed forms for P, Q and their inverses.
 use Rattle.std.specs.Prelude.{◌≡◌, List, ℕ, suc, ◌*◌, ◌<◌}
 use Rattle.forms.specs.Numbers.{total}
 use Rattle.forms.specs.Polynomials.{degree}

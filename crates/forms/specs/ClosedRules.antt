@@ -1,4 +1,4 @@
--- The closed forms satisfy rules 4 to 6: P and PI are inverse to each other, so are Q and QI, and P(XE-A)Q = D, over F_p[X].
+-- What rules 4 to 6 say of P, Q and their inverses over F_p[X], with the diagonal f.
 use Rattle.std.specs.Prelude.{ℕ}
 use Rattle.forms.specs.Polynomials.{Coefficients}
 use Rattle.forms.specs.Matrices as definitions

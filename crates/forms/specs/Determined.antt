@@ -1,5 +1,4 @@
--- Two answers that meet one promise are equal, but for P, Q, T and their inverses: of two analyses every byte is the same outside
--- the payloads of PL, PI, QR, QI, TB and TI.
+-- The output of an analysis that has written, and the records that the matrix determines.
 use Rattle.std.specs.Prelude.{◌≡◌, List, ◌++◌, ℕ, drop}
 use Rattle.forms.specs.Certificate.{Certificate, layout, certificate_length}
 use Rattle.forms.specs.Words.{LaidOut}

@@ -1,4 +1,4 @@
--- Finding: each mark finds the payload of its own record, which is never empty, and what is no mark finds nothing.
+-- The test that no mark stands for two records.
 use Rattle.std.specs.Prelude.{Bool, cond, not, ℕ, eqb}
 use Rattle.forms.specs.Certificate.{mark}
 use Rattle.forms.specs.Operations.{is_mark}

@@ -1,4 +1,4 @@
--- Where the analysis has nothing to refuse, the order and the prime are in their limits and the matrix is residues, n by n.
+-- A request in which the analysis has nothing to refuse.
 use Rattle.std.specs.Prelude.{List, ℕ, ◌*◌, ◌≤◌, T}
 use Rattle.forms.specs.Numbers.{prime, order_limit}
 use Rattle.forms.specs.Words.{Residues}

@@ -1,5 +1,4 @@
--- Answers that look right and are refuted: the rational answer of case e reduced modulo 2, telling loops apart by the product of
--- their polynomials and the last of them, and a diagonal without the dividing chain.
+-- Answers that look right: of case e the rational one reduced modulo 2, cases h and i, and a diagonal without the dividing chain.
 use Rattle.std.specs.Prelude.{List, [], ◌∷◌, ℕ}
 use Rattle.forms.specs.Polynomials.{Coefficients, convolution}
 

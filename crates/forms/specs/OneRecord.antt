@@ -1,4 +1,4 @@
--- One record: what its reading has seen where it refuses nothing, and the bytes that it then has.
+-- One record: what its reading has seen where it refuses nothing.
 use Rattle.std.specs.Prelude.{◌≡◌, cond, eqb, ltb, length}
 use mathlib.Core.List.{List}
 use Prim.Native.Nat.{ℕ, suc, ◌+◌, ◌*◌, ◌≤◌, ◌<◌}

@@ -1,4 +1,4 @@
--- Records one after the other: their marks and lengths, the bytes of each, and where each starts.
+-- The bytes of one record. Where each record starts, and what its bytes are, stands in proofs/Records.
 use Rattle.std.specs.Prelude.{List, ◌∷◌, ℕ, ◌/◌, ◌%◌}
 use Rattle.forms.specs.Numbers.{at}
 use Rattle.forms.specs.Certificate.{mark, size}

@@ -1,4 +1,4 @@
--- Demand 3: matrices are similar exactly when their certificates have the same D and F. So a renaming of the states leaves both.
+-- A renaming of the states.
 use Rattle.std.specs.Prelude.{◌≡◌, List, ℕ, ◌<◌}
 use Rattle.forms.specs.Matrices.{matrix}
 

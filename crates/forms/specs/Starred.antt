@@ -1,5 +1,4 @@
--- The starred matrices of document 01 as one table under one statement: p, n, A, D, F and the lead are as the document prints.
--- A certificate of each stands beside the table; one computed test over both turns into the statement.
+-- The starred matrices of document 01 as one table: p, n, A, D, F and the lead. That they are as printed is proved in proofs/Starred.
 use Rattle.std.specs.Prelude.{◌≡◌, List, [], ◌∷◌, ℕ}
 use Rattle.forms.specs.Matrices.{diagonal}
 use Rattle.forms.specs.Frobenius.{lead}

@@ -1,5 +1,4 @@
--- Two certificates of one matrix have the same D and F, byte by byte: the Smith form of XE-A with monic entries is unique, and F is
--- built from it.
+-- What a certificate that is laid out has of residues.
 use Rattle.std.specs.Prelude.{ℕ, suc, ◌*◌, ◌≤◌}
 use Rattle.algebra.specs.Modular.{Prime}
 use Rattle.forms.specs.Certificate.{Certificate}

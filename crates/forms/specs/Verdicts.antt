@@ -1,5 +1,4 @@
--- What the check accepts: exactly the layouts of certificates as demand 2 says; so it accepts what the analysis writes, and what it
--- accepts of A has the analysis's D and F.
+-- The bytes of a certificate of its matrix.
 use Rattle.std.specs.Prelude.{◌≡◌, List, ℕ}
 use Rattle.forms.specs.Certificate.{Certificate, layout}
 use Rattle.forms.specs.Words.{Certified, LaidOut}

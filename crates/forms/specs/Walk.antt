@@ -1,4 +1,4 @@
--- The walk: the loop x' = A x modulo p and its rewriting y' = F y pass through the same states, T y for y, at every step.
+-- The walk of a loop x' = A x modulo p: one step, and k steps.
 use Rattle.std.specs.Prelude.{List}
 use Prim.Native.Nat.{ℕ, zero, suc, ◌*◌, ◌%◌}
 use Rattle.forms.specs.Numbers.{at, total}

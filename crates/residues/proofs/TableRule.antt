@@ -1,4 +1,4 @@
--- The reciprocals modulo 251, and their rule: one test over the whole table, carried to each entry.
+-- The rule of the reciprocals modulo 251: one test over the whole table, carried to each entry.
 use Rattle.std.specs.Prelude.{Bool, ◌&&◌, ℕ, zero, suc, ◌*◌, ◌%◌, ◌<◌, T, eqb, ltb, get_or}
 use Rattle.std.proofs.Common.{arith, eqb→eq, ltb→lt}
 use Rattle.forms.specs.Numbers.{every}

@@ -1,4 +1,4 @@
--- Six divisions tell the primes from 2 to 251 from the other numbers.
+-- The six divisions that tell the primes from 2 to 251 from the other numbers.
 use Rattle.std.specs.Prelude.{Bool, not, ◌&&◌, ◌||◌, ℕ, ◌%◌, eqb, leb}
 
 -- p is d, or d does not divide it

@@ -1,4 +1,4 @@
--- The reciprocals modulo 251, and their rule: one test over the whole table, carried to each entry.
+-- The reciprocals modulo 251.
 use Rattle.std.specs.Prelude.{List, [], ◌∷◌, ℕ}
 
 unfoldable pub reciprocals : List ℕ

@@ -1,4 +1,4 @@
--- At 251 the code's table is the one whose rule is proved in specs/Table.antt.
+-- At 251 the code's table is the one whose rule is proved in proofs/TableRule.
 use Rattle.std.proofs.Common.{arith}
 use Rattle.residues.specs.Table.{reciprocals}
 use Rattle.residues.proofs.TableRule.{reciprocal_at}
