@@ -1,10 +1,15 @@
 -- Zeros are put for the whole line, and over them the first c entries.
-use Rattle.std.proofs.Common.{rules, arith, ◌≡◌, refl, sym, ℕ, ◌*◌, mul-le-mul, length, take, replicate, length-take-le}
+use Rattle.std.proofs.Common.{List, rules, arith, ◌≡◌, refl, sym, ℕ, ◌*◌, mul-le-mul, length, take, replicate, length-take-le}
 use Rattle.forms.specs.Numbers.{order_limit}
 use Rattle.forms.specs.Listed.{listed, listed_length, row_place}
+use Rattle.basis.specs.State.{State}
 use Rattle.entries.specs.Coefficients.{closed_entry}
 use Rattle.entries.specs.PutEntries.{short_put_whole, zeros_there, line_start, line_zeros, line_turn, line_end}
 use Rattle.payloads.proofs.put_line.Goals as goal
+
+-- the entries of the line
+abbrev entries : ℕ → ℕ → State → List ℕ → List ℕ → ℕ → ℕ → ℕ → List ℕ
+entries p n s from last kind r c = listed n (closed_entry p s from last kind r c)
 
 pub slice_bounds-zeros-end : goal.slice_bounds-zeros-end
 slice_bounds-zeros-end c = omega (arith, mul-le-mul c.requires.1 c.requires.1)
@@ -18,7 +23,7 @@ put_bytes-end-requires c =
     omega (arith, many, c.requires.2)
 
 pub loop-c-init : goal.loop-c-init
-loop-c-init c = (search rules, line_start (λ i. listed c.args.n (closed_entry c.args.p c.args.s.now c.args.from.now c.args.last.now c.args.kind c.args.r i)) _ _, refl)
+loop-c-init c = (search rules, line_start (entries c.args.p c.args.n c.args.s.now c.args.from.now c.args.last.now c.args.kind c.args.r) _ _, refl)
 
 pub overflow_mul-c : goal.overflow_mul-c
 overflow_mul-c c = omega (arith, row_place c.loop-c.c 0 c.args.n c.args.n c.loop-c-test.true (omega (arith, c.loop-c-test.true)), mul-le-mul c.requires.1 c.requires.1)
@@ -27,13 +32,13 @@ pub overflow_add-at : goal.overflow_add-at
 overflow_add-at c = omega (arith, row_place c.loop-c.c 0 c.args.n c.args.n c.loop-c-test.true (omega (arith, c.loop-c-test.true)), c.requires.2)
 
 pub closed_entry-requires : goal.closed_entry-requires
-closed_entry-requires c = ((line_zeros (λ i. listed c.args.n (closed_entry c.args.p c.args.s.now c.args.from.now c.args.last.now c.args.kind c.args.r i)) c.args.n (λ i. listed_length _ _) (zeros_there (order_limit * order_limit) c.put_bytes-end.ensures (mul-le-mul c.requires.1 c.requires.1) c.requires.2) c.loop-c-test.true c.loop-c.invariant.1).room, c.requires.0, c.loop-c-test.true, c.requires.1, c.requires.3, c.requires.4, c.requires.5)
+closed_entry-requires c = ((line_zeros (entries c.args.p c.args.n c.args.s.now c.args.from.now c.args.last.now c.args.kind c.args.r) c.args.n (λ i. listed_length _ _) (zeros_there (order_limit * order_limit) c.put_bytes-end.ensures (mul-le-mul c.requires.1 c.requires.1) c.requires.2) c.loop-c-test.true c.loop-c.invariant.1).room, c.requires.0, c.loop-c-test.true, c.requires.1, c.requires.3, c.requires.4, c.requires.5)
 
 pub loop-c-preserved : goal.loop-c-preserved
 loop-c-preserved c =
-    let free = line_zeros (λ i. listed c.args.n (closed_entry c.args.p c.args.s.now c.args.from.now c.args.last.now c.args.kind c.args.r i)) c.args.n (λ i. listed_length _ _) (zeros_there (order_limit * order_limit) c.put_bytes-end.ensures (mul-le-mul c.requires.1 c.requires.1) c.requires.2) c.loop-c-test.true c.loop-c.invariant.1 in (
+    let free = line_zeros (entries c.args.p c.args.n c.args.s.now c.args.from.now c.args.last.now c.args.kind c.args.r) c.args.n (λ i. listed_length _ _) (zeros_there (order_limit * order_limit) c.put_bytes-end.ensures (mul-le-mul c.requires.1 c.requires.1) c.requires.2) c.loop-c-test.true c.loop-c.invariant.1 in (
       search rules,
-      line_turn (λ i. listed c.args.n (closed_entry c.args.p c.args.s.now c.args.from.now c.args.last.now c.args.kind c.args.r i)) c.args.n (λ i. listed_length _ _) (zeros_there (order_limit * order_limit) c.put_bytes-end.ensures (mul-le-mul c.requires.1 c.requires.1) c.requires.2) c.loop-c-test.true c.loop-c.invariant.1 (short_put_whole _ _ _ _ free c.closed_entry.ensures),
+      line_turn (entries c.args.p c.args.n c.args.s.now c.args.from.now c.args.last.now c.args.kind c.args.r) c.args.n (λ i. listed_length _ _) (zeros_there (order_limit * order_limit) c.put_bytes-end.ensures (mul-le-mul c.requires.1 c.requires.1) c.requires.2) c.loop-c-test.true c.loop-c.invariant.1 (short_put_whole _ _ _ _ free c.closed_entry.ensures),
       omega (arith, c.closed_entry.auto, c.loop-c.invariant.2),
     )
 
@@ -41,4 +46,4 @@ pub shape_of-out : goal.shape_of-out
 shape_of-out c = omega (arith, c.loop-c.invariant.2, c.put_bytes-end.auto)
 
 pub returns : goal.returns
-returns c = line_end (λ i. listed c.args.n (closed_entry c.args.p c.args.s.now c.args.from.now c.args.last.now c.args.kind c.args.r i)) _ (λ i. listed_length _ _) (length-take-le _ _ (omega (arith, mul-le-mul c.requires.1 c.requires.1))) c.requires.2 c.loop-c.invariant.0 c.loop-c-test.false c.put_bytes-end.ensures c.loop-c.invariant.1
+returns c = line_end (entries c.args.p c.args.n c.args.s.now c.args.from.now c.args.last.now c.args.kind c.args.r) _ (λ i. listed_length _ _) (length-take-le _ _ (omega (arith, mul-le-mul c.requires.1 c.requires.1))) c.requires.2 c.loop-c.invariant.0 c.loop-c-test.false c.put_bytes-end.ensures c.loop-c.invariant.1
