@@ -1,5 +1,5 @@
 -- The elimination and the tables of its blocks give a certificate, and its layout is what the records are.
-use Rattle.std.proofs.Common.{◌≡◌, ℕ, List, [], get_or}
+use Rattle.std.proofs.Common.{◌≡◌, ℕ, List, [], get_or, arith}
 use Rattle.forms.specs.Words.{LaidOut, Certified}
 use Rattle.forms.specs.LegalRequests.{Legal}
 use Rattle.forms.specs.Primes.{prime_positive}
@@ -21,7 +21,7 @@ certifies {p} {n} {A} {m} {s} {from} {last} legal e r rows ends =
     (reduced, all.0, all.1)
 
 pub reduce-s-requires : goal.reduce-s-requires
-reduce-s-requires c = (c.requires.0.high, c.requires.0.prime_p, rw c.field_matrix.ensures (loaded_field _ _ _ c.requires.0.residues))
+reduce-s-requires c = (omega (arith, c.requires.0.high), c.requires.0.prime_p, rw c.field_matrix.ensures (loaded_field _ _ _ c.requires.0.residues))
 
 pub put_records-requires : goal.put_records-requires
 put_records-requires c =
