@@ -1,5 +1,5 @@
 -- Document 01's own cases, computed from the definitions: case b byte by byte, its refusals, and the questions of each operation.
-use Rattle.std.specs.Prelude.{◌≡◌, refl, List, [], ◌∷◌, ◌++◌, ℕ, take}
+use Rattle.std.specs.Prelude.{◌≡◌, refl, List, [], ◌∷◌, ◌++◌, ℕ, take, Result, Ok, Err}
 use Rattle.forms.specs.Numbers.{total, every, prime}
 use Rattle.forms.specs.Answers.{fine, refuse, ask, each}
 use Rattle.forms.specs.Reciprocals.{reciprocal_asked}
@@ -11,7 +11,7 @@ use Rattle.forms.specs.Reading.{order_and_prime, record_asked, records_asked, re
 use Rattle.forms.specs.Rules.{rule, rules, verdict_of, verdict}
 use Rattle.forms.specs.Operations.{analysis_asked, part_marked, part_found}
 use Rattle.forms.specs.declared.Fault.TheVariants.{Form, Rule}
-use Rattle.forms.specs.declared.Verdict.TheVariants.{Accepted, Refused}
+use Rattle.forms.specs.declared.Reason.TheVariants.{RecordIncomplete, BytesAfter}
 
 -- p 5, n 2, A = (2 1 / 0 3), with one choice of P, Q and T
 abbrev case_b : Certificate
@@ -54,23 +54,23 @@ unfolding offset size total
 whole_lengths = (refl, refl, refl)
 
 -- what the check answers to case b, and to bytes that are nearly it
-pub case_b_accepted : verdict case_b_bytes ≡ Accepted 96
+pub case_b_accepted : verdict case_b_bytes ≡ Ok 96
 unfolding verdict verdict_of records_asked record_asked order_and_prime rules rule certificate_of ask each every total prime matrix polynomial_matrix diagonal unit polynomial_unit diagonal_matrix characteristic field_product convolution polynomial_product degree remainder companion blocks frobenius mark size offset part
 case_b_accepted = refl
 
-pub no_bytes : verdict [] ≡ Refused (Form 6 0)
+pub no_bytes : verdict [] ≡ Err (Form RecordIncomplete 0)
 unfolding verdict verdict_of records_asked record_asked ask each mark size offset total
 no_bytes = refl
 
-pub last_byte_gone : verdict (take 95 case_b_bytes) ≡ Refused (Form 6 88)
+pub last_byte_gone : verdict (take 95 case_b_bytes) ≡ Err (Form RecordIncomplete 88)
 unfolding verdict verdict_of records_asked record_asked order_and_prime ask each every total prime mark size offset
 last_byte_gone = refl
 
-pub one_byte_more : verdict (case_b_bytes ++ (0 ∷ [])) ≡ Refused (Form 10 96)
+pub one_byte_more : verdict (case_b_bytes ++ (0 ∷ [])) ≡ Err (Form BytesAfter 96)
 unfolding verdict verdict_of records_asked record_asked order_and_prime ask each every total prime mark size offset
 one_byte_more = refl
 
-pub T_all_zero : verdict (up_to_T ++ (84 ∷ 66 ∷ 4 ∷ 0 ∷ 0 ∷ 0 ∷ 0 ∷ 0 ∷ 84 ∷ 73 ∷ 4 ∷ 0 ∷ 0 ∷ 0 ∷ 0 ∷ 0 ∷ [])) ≡ Refused (Rule 8)
+pub T_all_zero : verdict (up_to_T ++ (84 ∷ 66 ∷ 4 ∷ 0 ∷ 0 ∷ 0 ∷ 0 ∷ 0 ∷ 84 ∷ 73 ∷ 4 ∷ 0 ∷ 0 ∷ 0 ∷ 0 ∷ 0 ∷ [])) ≡ Err (Rule 8)
 unfolding verdict verdict_of records_asked record_asked order_and_prime rules rule certificate_of ask each every total prime matrix polynomial_matrix diagonal unit polynomial_unit diagonal_matrix characteristic field_product convolution polynomial_product degree remainder companion blocks frobenius mark size offset part
 T_all_zero = refl
 

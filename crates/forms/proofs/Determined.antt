@@ -1,6 +1,6 @@
 -- Two answers that meet one promise are equal, but for P, Q, T and their inverses: of two analyses every byte is the same outside
 -- the payloads of PL, PI, QR, QI, TB and TI.
-use Rattle.std.specs.Prelude.{◌≡◌, refl, List, [], ◌∷◌, ℕ, zero, suc, ◌+◌, ◌<◌, T, ltb, length, drop}
+use Rattle.std.specs.Prelude.{◌≡◌, refl, List, [], ◌∷◌, ℕ, zero, suc, ◌+◌, ◌<◌, T, ltb, length, drop, Result, Ok}
 use Rattle.std.proofs.Common.{sym, ◌∙◌, ap, ap₂, subst, arith, drop_at}
 use Rattle.std.proofs.Math.Decide.{ℕ_discrete}
 use Rattle.std.proofs.Math.ListN.{get_or-append}
@@ -17,14 +17,12 @@ use Rattle.forms.proofs.Records.{offset_within}
 use Rattle.forms.proofs.Layouts.{layout_certificate_length, layout_at}
 use Rattle.forms.proofs.Uniqueness.{frobenius_unique}
 use Rattle.forms.specs.InversesModulo.{inverse_modulo_unique}
-use Rattle.forms.specs.declared.Analysed.{Analysed}
-use Rattle.forms.specs.declared.Verdict.{Verdict}
-use Rattle.forms.specs.declared.Reciprocal.{Reciprocal}
-use Rattle.forms.specs.declared.Reciprocal.TheVariants.{Residue}
+use Rattle.forms.specs.declared.Fault.{Fault}
+use Rattle.forms.specs.declared.Refusal.{Refusal}
 use Rattle.forms.specs.Determined.{DF_fixed, FB_fixed, Fixed, HD_fixed, MA_fixed, Output}
 
 -- the check and finding
-pub check_determined : (s : List ℕ) (x y : Verdict) → Checks s x → Checks s y → x ≡ y
+pub check_determined : (s : List ℕ) (x y : Result ℕ Fault) → Checks s x → Checks s y → x ≡ y
 check_determined s x y g h = g.answered ∙ sym h.answered
 
 pub finding_determined : (s m u v : List ℕ) → Finds s m u → Finds s m v → u ≡ v
@@ -41,17 +39,17 @@ reciprocal_prime : (p x : ℕ) → reciprocal_asked p x ≡ fine → T (prime p)
 unfolding reciprocal_asked
 reciprocal_prime p x e = ask_fine (prime p) 2 p (then_fine (ask (prime p) 2 p) (ask (ltb x p) 4 0) e).0
 
-pub reciprocal_determined : (p x : ℕ) (a b : Reciprocal) → Reciprocates p x a → Reciprocates p x b → a ≡ b
+pub reciprocal_determined : (p x : ℕ) (a b : Result ℕ Refusal) → Reciprocates p x a → Reciprocates p x b → a ≡ b
 reciprocal_determined p x a b g h = go (reciprocal_asked p x) refl
   where
     go : (s : Asked) → reciprocal_asked p x ≡ s → a ≡ b
     go (refuse number place) e = g.refused number place e ∙ sym (h.refused number place e)
     go fine e =
         let u = g.answered e in let v = h.answered e in
-        u.1 ∙ ap Residue (inverse_determined p x u.0 v.0 (prime_means p (reciprocal_prime p x e)).large u.2 v.2) ∙ sym v.1
+        u.1 ∙ ap Ok (inverse_determined p x u.0 v.0 (prime_means p (reciprocal_prime p x e)).large u.2 v.2) ∙ sym v.1
 
 -- the analysis: number and place, and on a refusal every byte
-module _ (p n : ℕ) (A before u v : List ℕ) (x y : Analysed) (g : Analyses p n A before u x) (h : Analyses p n A before v y) where
+module _ (p n : ℕ) (A before u v : List ℕ) (x y : Result ℕ Refusal) (g : Analyses p n A before u x) (h : Analyses p n A before v y) where
   pub analysis_same_answer : x ≡ y
   analysis_same_answer = go (analysis_asked p n A (length before)) refl
     where
@@ -62,7 +60,7 @@ module _ (p n : ℕ) (A before u v : List ℕ) (x y : Analysed) (g : Analyses p 
   pub analysis_refused_same : (number place : ℕ) → analysis_asked p n A (length before) ≡ refuse number place → u ≡ v
   analysis_refused_same number place e = (g.refused number place e).1 ∙ sym (h.refused number place e).1
 
-pub analysis_output : (p n : ℕ) (A before after : List ℕ) (x : Analysed) → Analyses p n A before after x → analysis_asked p n A (length before) ≡ fine
+pub analysis_output : (p n : ℕ) (A before after : List ℕ) (x : Result ℕ Refusal) → Analyses p n A before after x → analysis_asked p n A (length before) ≡ fine
     → (c : Certificate) × Output n before after c × Certified p n A c
 analysis_output p n A before after x g e = let w = (g.written e).1 in (w.0, record { laid = w.2; order = w.3.given.1; bytes = w.1 }, w.3)
 
@@ -115,7 +113,7 @@ certified_same_payload p n A c d x y g h _ DF_fixed = (frobenius_unique p n A c 
 certified_same_payload p n A c d x y g h _ FB_fixed = (frobenius_unique p n A c d x y g h).1
 
 -- what two analyses of one matrix may differ in is the payloads of P, Q, T and their inverses
-pub analysis_same_bytes : (p n : ℕ) (A before u v : List ℕ) (x y : Analysed) → Analyses p n A before u x → Analyses p n A before v y → analysis_asked p n A (length before) ≡ fine
+pub analysis_same_bytes : (p n : ℕ) (A before u v : List ℕ) (x y : Result ℕ Refusal) → Analyses p n A before u x → Analyses p n A before v y → analysis_asked p n A (length before) ≡ fine
     → (drop (certificate_length n) u ≡ drop (certificate_length n) v)
     × ((k j : ℕ) → k < 10 → j < 4 → at u (offset n k + j) ≡ at v (offset n k + j))
     × ((k j : ℕ) → Fixed k → j < 4 + size n k → at u (offset n k + j) ≡ at v (offset n k + j))

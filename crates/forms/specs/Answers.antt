@@ -1,13 +1,10 @@
 -- Questions asked in an order, of which the first that fails gives the refusal; and the number and the place of each answer.
-use Rattle.std.specs.Prelude.{Bool, cond, ℕ, zero, suc}
+use Rattle.std.specs.Prelude.{Bool, cond, List, [], ◌∷◌, ℕ, zero, suc, ◌-◌, Result, Ok, Err, get_or}
+use Rattle.forms.specs.declared.Reason.{Reason}
+use Rattle.forms.specs.declared.Reason.TheVariants.{OrderOutOfRange, NotPrime, MatrixLength, EntryTooLarge, OutputTooShort, RecordIncomplete, WrongMark, WrongLength, ByteTooLarge, BytesAfter}
+use Rattle.forms.specs.declared.Refusal.{Refusal}
 use Rattle.forms.specs.declared.Fault.{Fault}
 use Rattle.forms.specs.declared.Fault.TheVariants.{Form, Rule}
-use Rattle.forms.specs.declared.Verdict.{Verdict}
-use Rattle.forms.specs.declared.Verdict.TheVariants.{Accepted, Refused}
-use Rattle.forms.specs.declared.Analysed.{Analysed}
-use Rattle.forms.specs.declared.Analysed.TheVariants.{Written, Refused as Unwritten}
-use Rattle.forms.specs.declared.Reciprocal.{Reciprocal}
-use Rattle.forms.specs.declared.Reciprocal.TheVariants.{Residue, Refused as NoResidue}
 
 -- what questions come to: nothing to refuse, or a number and a place
 pub data Asked : Type 0 where
@@ -37,37 +34,66 @@ abbrev pub asked_place : Asked → ℕ → ℕ
 asked_place fine length = length
 asked_place (refuse number place) length = place
 
+-- the number of each reason
+abbrev pub reason_number : Reason → ℕ
+reason_number OrderOutOfRange = 1
+reason_number NotPrime = 2
+reason_number MatrixLength = 3
+reason_number EntryTooLarge = 4
+reason_number OutputTooShort = 5
+reason_number RecordIncomplete = 6
+reason_number WrongMark = 7
+reason_number WrongLength = 8
+reason_number ByteTooLarge = 9
+reason_number BytesAfter = 10
+
+-- the reason of each number from 1 to 10
+abbrev pub reason_of : ℕ → Reason
+reason_of number =
+    get_or (OrderOutOfRange ∷ NotPrime ∷ MatrixLength ∷ EntryTooLarge ∷ OutputTooShort ∷ RecordIncomplete ∷ WrongMark ∷ WrongLength ∷ ByteTooLarge ∷ BytesAfter ∷ []) (number - 1) BytesAfter
+
+abbrev pub refusal_of : ℕ → ℕ → Refusal
+refusal_of number place = record { reason = reason_of number; place = place }
+
+-- the question that a refusal answers
+abbrev pub refused_by : Refusal → Asked
+refused_by refusal = refuse (reason_number refusal.reason) refusal.place
+
+-- what is refused of n and p alone, as a fault of the header that holds them
+abbrev pub form_fault : Refusal → Fault
+form_fault refusal = Form refusal.reason refusal.place
+
 -- the check's answer
 abbrev pub fault_number : Fault → ℕ
-fault_number (Form number offset) = number
+fault_number (Form reason offset) = reason_number reason
 fault_number (Rule rule) = 11
 
 abbrev pub fault_place : Fault → ℕ
-fault_place (Form number offset) = offset
+fault_place (Form reason offset) = offset
 fault_place (Rule rule) = rule
 
-abbrev pub verdict_number : Verdict → ℕ
-verdict_number (Accepted length) = 0
-verdict_number (Refused fault) = fault_number fault
+abbrev pub verdict_number : Result ℕ Fault → ℕ
+verdict_number (Ok length) = 0
+verdict_number (Err fault) = fault_number fault
 
-abbrev pub verdict_place : Verdict → ℕ
-verdict_place (Accepted length) = length
-verdict_place (Refused fault) = fault_place fault
+abbrev pub verdict_place : Result ℕ Fault → ℕ
+verdict_place (Ok length) = length
+verdict_place (Err fault) = fault_place fault
 
 -- the analysis's answer
-abbrev pub analysed_number : Analysed → ℕ
-analysed_number (Written length) = 0
-analysed_number (Unwritten number place) = number
+abbrev pub analysed_number : Result ℕ Refusal → ℕ
+analysed_number (Ok length) = 0
+analysed_number (Err refusal) = reason_number refusal.reason
 
-abbrev pub analysed_place : Analysed → ℕ
-analysed_place (Written length) = length
-analysed_place (Unwritten number place) = place
+abbrev pub analysed_place : Result ℕ Refusal → ℕ
+analysed_place (Ok length) = length
+analysed_place (Err refusal) = refusal.place
 
 -- the reciprocal's answer: its value is the residue, or the place of the refusal
-abbrev pub reciprocal_number : Reciprocal → ℕ
-reciprocal_number (Residue residue) = 0
-reciprocal_number (NoResidue number place) = number
+abbrev pub reciprocal_number : Result ℕ Refusal → ℕ
+reciprocal_number (Ok residue) = 0
+reciprocal_number (Err refusal) = reason_number refusal.reason
 
-abbrev pub reciprocal_value : Reciprocal → ℕ
-reciprocal_value (Residue residue) = residue
-reciprocal_value (NoResidue number place) = place
+abbrev pub reciprocal_value : Result ℕ Refusal → ℕ
+reciprocal_value (Ok residue) = residue
+reciprocal_value (Err refusal) = refusal.place

@@ -1,7 +1,7 @@
 -- How a promise is met: from the answer and the bytes alone, its number and place follow.
-use Rattle.std.specs.Prelude.{◌≡◌, refl, List, ◌++◌, ℕ, suc, length, drop}
+use Rattle.std.specs.Prelude.{◌≡◌, refl, List, ◌++◌, ℕ, suc, length, drop, Result, Ok, Err}
 use Rattle.std.proofs.Common.{sym, ◌∙◌, ap, subst, arith}
-use Rattle.forms.specs.Answers.{Asked, fine, refuse, ◌then◌, asked_number, asked_place, analysed_number, analysed_place, verdict_number, verdict_place, reciprocal_number, reciprocal_value}
+use Rattle.forms.specs.Answers.{Asked, fine, refuse, ◌then◌, asked_number, asked_place, reason_number, reason_of, refused_by, analysed_number, analysed_place, verdict_number, verdict_place, reciprocal_number, reciprocal_value}
 use Rattle.forms.specs.Certificate.{Certificate, layout, certificate_length}
 use Rattle.forms.specs.Reading.{reading, certificate_of}
 use Rattle.forms.specs.Rules.{rule, rules, verdict_of, verdict}
@@ -9,27 +9,22 @@ use Rattle.forms.specs.Words.{Certified, LaidOut}
 use Rattle.forms.specs.Operations.{analysis_asked, Analyses, Checks}
 use Rattle.forms.specs.Reciprocals.{reciprocal_asked, InverseOf, Reciprocates}
 use Rattle.forms.specs.Tests.{refuse_not_fine, each_number}
-use Rattle.forms.specs.declared.Analysed.{Analysed}
-use Rattle.forms.specs.declared.Analysed.TheVariants.{Written, Refused as Unwritten}
+use Rattle.forms.specs.Reasons.{refused_is, Reasoned, reading_reasoned, reciprocal_reasoned}
+use Rattle.forms.specs.declared.Refusal.{Refusal}
+use Rattle.forms.specs.declared.Fault.{Fault}
 use Rattle.forms.specs.declared.Fault.TheVariants.{Form, Rule}
-use Rattle.forms.specs.declared.Verdict.{Verdict}
-use Rattle.forms.specs.declared.Verdict.TheVariants.{Accepted, Refused}
-use Rattle.forms.specs.declared.Reciprocal.{Reciprocal}
 
 -- the analysis
-module _ (p n : ℕ) (A before after : List ℕ) (answer : Analysed) where
-  pub analyses_refused : (number place : ℕ) → analysis_asked p n A (length before) ≡ refuse number place → answer ≡ Unwritten number place → after ≡ before → Analyses p n A before after answer
-  analyses_refused number place e a b = record {
-    refused = λ x y q. (a ∙ same x y (sym e ∙ q), b);
-    written = λ q. absurd (refuse_not_fine number place (sym e ∙ q));
+module _ (p n : ℕ) (A before after : List ℕ) (answer : Result ℕ Refusal) where
+  pub analyses_refused : (refusal : Refusal) → analysis_asked p n A (length before) ≡ refused_by refusal → answer ≡ Err refusal → after ≡ before → Analyses p n A before after answer
+  analyses_refused r e a b = record {
+    refused = λ x y q. (a ∙ ap Err (refused_is r x y (sym e ∙ q)), b);
+    written = λ q. absurd (refuse_not_fine (reason_number r.reason) r.place (sym e ∙ q));
     number = ap analysed_number a ∙ ap asked_number (sym e);
     place = ap analysed_place a ∙ ap (λ (s : Asked). asked_place s (certificate_length n)) (sym e);
   }
-    where
-      same : (x y : ℕ) → refuse number place ≡ refuse x y → Unwritten number place ≡ Unwritten x y
-      same x y q = cc
 
-  pub analyses_written : analysis_asked p n A (length before) ≡ fine → answer ≡ Written (certificate_length n) → (c : Certificate) → after ≡ layout c ++ drop (certificate_length n) before → LaidOut c → Certified p n A c → Analyses p n A before after answer
+  pub analyses_written : analysis_asked p n A (length before) ≡ fine → answer ≡ Ok (certificate_length n) → (c : Certificate) → after ≡ layout c ++ drop (certificate_length n) before → LaidOut c → Certified p n A c → Analyses p n A before after answer
   analyses_written e a c b l h = record {
     refused = λ x y q. absurd (refuse_not_fine x y (sym q ∙ e));
     written = λ q. (a, (c, b, l, h));
@@ -42,11 +37,11 @@ rules_number : (c : Certificate) (x y : ℕ) → rules c ≡ refuse x y → 11 �
 unfolding rules
 rules_number c x y e = each_number 9 (rule c) 11 suc x y e
 
-verdict_of_number : (r u : Asked) (z : ℕ) → ((x y : ℕ) → u ≡ refuse x y → 11 ≡ x) → verdict_number (verdict_of r u z) ≡ asked_number (r then u)
+verdict_of_number : (r u : Asked) (z : ℕ) → Reasoned r → ((x y : ℕ) → u ≡ refuse x y → 11 ≡ x) → verdict_number (verdict_of r u z) ≡ asked_number (r then u)
 unfolding verdict_of
-verdict_of_number (refuse a b) u z h = refl
-verdict_of_number fine (refuse a b) z h = h a b refl
-verdict_of_number fine fine z h = refl
+verdict_of_number (refuse a b) u z g h = g
+verdict_of_number fine (refuse a b) z g h = h a b refl
+verdict_of_number fine fine z g h = refl
 
 verdict_of_place : (r u : Asked) (z : ℕ) → verdict_place (verdict_of r u z) ≡ asked_place (r then u) z
 unfolding verdict_of
@@ -54,39 +49,39 @@ verdict_of_place (refuse a b) u z = refl
 verdict_of_place fine (refuse a b) z = refl
 verdict_of_place fine fine z = refl
 
-pub checks_verdict : (s : List ℕ) (answer : Verdict) → answer ≡ verdict s → Checks s answer
+pub checks_verdict : (s : List ℕ) (answer : Result ℕ Fault) → answer ≡ verdict s → Checks s answer
 unfolding verdict
 checks_verdict s answer e = record {
   answered = e;
-  number = ap verdict_number e ∙ verdict_of_number (reading s) (rules (certificate_of s)) (length s) (rules_number (certificate_of s));
+  number = ap verdict_number e ∙ verdict_of_number (reading s) (rules (certificate_of s)) (length s) (reading_reasoned s) (rules_number (certificate_of s));
   place = ap verdict_place e ∙ verdict_of_place (reading s) (rules (certificate_of s)) (length s);
 }
 
 -- accepted exactly where neither the reading nor a rule refuses
-pub verdict_accepted : (s : List ℕ) → reading s ≡ fine → rules (certificate_of s) ≡ fine → verdict s ≡ Accepted (length s)
+pub verdict_accepted : (s : List ℕ) → reading s ≡ fine → rules (certificate_of s) ≡ fine → verdict s ≡ Ok (length s)
 unfolding verdict verdict_of
 verdict_accepted s e f = ap (λ (r : Asked). verdict_of r (rules (certificate_of s)) (length s)) e ∙ ap (λ (u : Asked). verdict_of fine u (length s)) f
 
-verdict_of_parts : (r u : Asked) (z y : ℕ) → verdict_of r u z ≡ Accepted y → (r ≡ fine) × (u ≡ fine) × (z ≡ y)
+verdict_of_parts : (r u : Asked) (z y : ℕ) → verdict_of r u z ≡ Ok y → (r ≡ fine) × (u ≡ fine) × (z ≡ y)
 unfolding verdict_of
-verdict_of_parts (refuse a b) u z y e = let q : Refused (Form a b) ≡ Accepted y = e in absurd (let w : ◌≡◌ {A = ℕ} 0 1 = cc in omega arith)
-verdict_of_parts fine (refuse a b) z y e = let q : Refused (Rule b) ≡ Accepted y = e in absurd (let w : ◌≡◌ {A = ℕ} 0 1 = cc in omega arith)
-verdict_of_parts fine fine z y e = let q : Accepted z ≡ Accepted y = e in (refl, refl, (cc))
+verdict_of_parts (refuse a b) u z y e = let q : Err (Form (reason_of a) b) ≡ Ok y = e in (cc)
+verdict_of_parts fine (refuse a b) z y e = let q : Err (Rule b) ≡ Ok y = e in (cc)
+verdict_of_parts fine fine z y e = let q : Ok z ≡ Ok y = e in (refl, refl, (cc))
 
-pub accepted_parts : (s : List ℕ) (z : ℕ) → verdict s ≡ Accepted z → (reading s ≡ fine) × (rules (certificate_of s) ≡ fine) × (length s ≡ z)
+pub accepted_parts : (s : List ℕ) (z : ℕ) → verdict s ≡ Ok z → (reading s ≡ fine) × (rules (certificate_of s) ≡ fine) × (length s ≡ z)
 unfolding verdict
 accepted_parts s z e = verdict_of_parts (reading s) (rules (certificate_of s)) (length s) z e
 
 -- the reciprocal, by its number and value
-pub reciprocal_number_asked : (p x : ℕ) (answer : Reciprocal) → Reciprocates p x answer → reciprocal_number answer ≡ asked_number (reciprocal_asked p x)
-reciprocal_number_asked p x answer h = go (reciprocal_asked p x) refl
+pub reciprocal_number_asked : (p x : ℕ) (answer : Result ℕ Refusal) → Reciprocates p x answer → reciprocal_number answer ≡ asked_number (reciprocal_asked p x)
+reciprocal_number_asked p x answer h = go (reciprocal_asked p x) refl (reciprocal_reasoned p x)
   where
-    go : (s : Asked) → reciprocal_asked p x ≡ s → reciprocal_number answer ≡ asked_number s
-    go fine e = ap reciprocal_number (h.answered e).1
-    go (refuse number place) e = ap reciprocal_number (h.refused number place e)
+    go : (s : Asked) → reciprocal_asked p x ≡ s → Reasoned s → reciprocal_number answer ≡ asked_number s
+    go fine e g = ap reciprocal_number (h.answered e).1
+    go (refuse number place) e g = ap reciprocal_number (h.refused number place e) ∙ g
 
-pub reciprocal_value_refused : (p x number place : ℕ) (answer : Reciprocal) → Reciprocates p x answer → reciprocal_asked p x ≡ refuse number place → reciprocal_value answer ≡ place
+pub reciprocal_value_refused : (p x number place : ℕ) (answer : Result ℕ Refusal) → Reciprocates p x answer → reciprocal_asked p x ≡ refuse number place → reciprocal_value answer ≡ place
 reciprocal_value_refused p x number place answer h e = ap reciprocal_value (h.refused number place e)
 
-pub reciprocal_value_inverse : (p x : ℕ) (answer : Reciprocal) → Reciprocates p x answer → reciprocal_asked p x ≡ fine → InverseOf p x (reciprocal_value answer)
+pub reciprocal_value_inverse : (p x : ℕ) (answer : Result ℕ Refusal) → Reciprocates p x answer → reciprocal_asked p x ≡ fine → InverseOf p x (reciprocal_value answer)
 reciprocal_value_inverse p x answer h e = let w = h.answered e in subst (InverseOf p x) (sym (ap reciprocal_value w.1)) w.2

@@ -1,9 +1,8 @@
 -- The reciprocal: a bad p is refused by 2, then a number at or above p by 4 with place 0; else the residue alone, 0 for 0.
-use Rattle.std.specs.Prelude.{◌≡◌, ℕ, ◌*◌, ◌%◌, ◌<◌, ltb}
+use Rattle.std.specs.Prelude.{◌≡◌, ℕ, ◌*◌, ◌%◌, ◌<◌, ltb, Result, Ok, Err}
 use Rattle.forms.specs.Numbers.{prime}
-use Rattle.forms.specs.Answers.{Asked, fine, refuse, ◌then◌, ask}
-use Rattle.forms.specs.declared.Reciprocal.{Reciprocal}
-use Rattle.forms.specs.declared.Reciprocal.TheVariants.{Residue, Refused}
+use Rattle.forms.specs.Answers.{Asked, fine, refuse, ◌then◌, ask, refusal_of}
+use Rattle.forms.specs.declared.Refusal.{Refusal}
 
 unfoldable pub reciprocal_asked : ℕ → ℕ → Asked
 reciprocal_asked p x = ask (prime p) 2 p then ask (ltb x p) 4 0
@@ -15,6 +14,6 @@ pub record InverseOf (p x r : ℕ) : Type 0 where
   pub of_other : 0 < x → (x * r) % p ≡ 1
 
 -- what the answer to p and x has to be
-pub record Reciprocates (p x : ℕ) (answer : Reciprocal) : Type 0 where
-  pub refused : (number place : ℕ) → reciprocal_asked p x ≡ refuse number place → answer ≡ Refused number place
-  pub answered : reciprocal_asked p x ≡ fine → (r : ℕ) × (answer ≡ Residue r) × InverseOf p x r
+pub record Reciprocates (p x : ℕ) (answer : Result ℕ Refusal) : Type 0 where
+  pub refused : (number place : ℕ) → reciprocal_asked p x ≡ refuse number place → answer ≡ Err (refusal_of number place)
+  pub answered : reciprocal_asked p x ≡ fine → (r : ℕ) × (answer ≡ Ok r) × InverseOf p x r

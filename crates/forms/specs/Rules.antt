@@ -1,15 +1,14 @@
 -- The nine rules as tests, and the verdict: the first refusal of the reading, else the first rule that fails, else accepted.
-use Rattle.std.specs.Prelude.{Bool, true, List, [], ◌∷◌, ℕ, suc, ◌*◌, ◌-◌, ◌%◌, eqb, length, get_or}
+use Rattle.std.specs.Prelude.{Bool, true, List, [], ◌∷◌, ℕ, suc, ◌*◌, ◌-◌, ◌%◌, eqb, length, get_or, Result, Ok, Err}
 use Rattle.forms.specs.Numbers.{total, every}
-use Rattle.forms.specs.Answers.{Asked, fine, refuse, ask, each}
+use Rattle.forms.specs.Answers.{Asked, fine, refuse, ask, each, reason_of}
 use Rattle.forms.specs.Polynomials.{degree, monic, divides}
 use Rattle.forms.specs.Matrices.{Entries, PolynomialEntries, matrix, polynomial_matrix, diagonal, unit, polynomial_unit, diagonal_matrix, characteristic, field_product, polynomial_product}
 use Rattle.forms.specs.Frobenius.{frobenius}
 use Rattle.forms.specs.Certificate.{Certificate}
 use Rattle.forms.specs.Reading.{reading, certificate_of}
+use Rattle.forms.specs.declared.Fault.{Fault}
 use Rattle.forms.specs.declared.Fault.TheVariants.{Form, Rule}
-use Rattle.forms.specs.declared.Verdict.{Verdict}
-use Rattle.forms.specs.declared.Verdict.TheVariants.{Accepted, Refused}
 
 -- equal modulo p, at order n
 abbrev pub field_equal : ℕ → ℕ → Entries → Entries → Bool
@@ -40,10 +39,11 @@ rule c k =
 unfoldable pub rules : Certificate → Asked
 rules c = each 9 (λ k. ask (rule c k) 11 (suc k))
 
-unfoldable pub verdict_of : Asked → Asked → ℕ → Verdict
-verdict_of (refuse number offset) r z = Refused (Form number offset)
-verdict_of fine (refuse number rule) z = Refused (Rule rule)
-verdict_of fine fine z = Accepted z
+-- accepted with the length z, or the fault
+unfoldable pub verdict_of : Asked → Asked → ℕ → Result ℕ Fault
+verdict_of (refuse number offset) r z = Err (Form (reason_of number) offset)
+verdict_of fine (refuse number rule) z = Err (Rule rule)
+verdict_of fine fine z = Ok z
 
-unfoldable pub verdict : List ℕ → Verdict
+unfoldable pub verdict : List ℕ → Result ℕ Fault
 verdict s = verdict_of (reading s) (rules (certificate_of s)) (length s)
