@@ -4,7 +4,7 @@ ghost use Rattle.forms.specs.Numbers.{prime};
 ghost use Rattle.forms.specs.Reciprocals.{InverseOf, Reciprocates};
 
 use crate::table::RECIPROCALS;
-use forms::Reciprocal;
+use forms::{Reason, Refusal};
 
 // A prime from 2 to 251: since 251 is below 17 * 17, six divisions are enough.
 pub fn is_prime(p: u64) -> bool
@@ -25,7 +25,7 @@ pub fn plus_multiple(x: u8, k: u8, y: u8, p: u8) -> u8
     requires { 0 < p }
     ensures { result ≡ (x + k * y) % p }
 {
-    (((x as u32) + (k as u32) * (y as u32)) % (p as u32)) as u8
+    ((u32::from(x) + u32::from(k) * u32::from(y)) % u32::from(p)) as u8
 }
 
 // Euclid's algorithm on p and x: the remainders a and b are s x and t x modulo p, until b is 1.
@@ -33,11 +33,11 @@ fn euclid(x: u8, p: u8) -> u8
     requires { T (prime p) × (0 < x) × (x < p) }
     ensures { InverseOf p x result }
 {
-    let modulus = p as u32;
+    let modulus = u32::from(p);
     let mut a = modulus;
-    let mut b = x as u32;
-    let mut s: u32 = 0;
-    let mut t: u32 = 1;
+    let mut b = u32::from(x);
+    let mut s = 0;
+    let mut t = 1;
     while b > 1 {
         let quotient = a / b;
         let remainder = a % b;
@@ -56,8 +56,7 @@ pub fn reciprocal_of(x: u8, p: u8) -> u8
     ensures { InverseOf p x result }
 {
     if p == 251 {
-        let i = x as usize;
-        return RECIPROCALS[i];
+        return RECIPROCALS[usize::from(x)];
     }
     if x == 0 {
         return 0;
@@ -66,20 +65,20 @@ pub fn reciprocal_of(x: u8, p: u8) -> u8
 }
 
 // The public operation: a bad p is refused by 2, then a number at or above p by 4 with place 0.
-pub fn reciprocal(p: u64, x: u64) -> Reciprocal
+pub fn reciprocal(p: u64, x: u64) -> Result<u8, Refusal>
     ensures { Reciprocates p x result }
 {
     if !is_prime(p) {
-        return Reciprocal::Refused {
-            number: 2,
+        return Err(Refusal {
+            reason: Reason::NotPrime,
             place: p,
-        };
+        });
     }
     if x >= p {
-        return Reciprocal::Refused {
-            number: 4,
+        return Err(Refusal {
+            reason: Reason::EntryTooLarge,
             place: 0,
-        };
+        });
     }
-    Reciprocal::Residue(reciprocal_of(x as u8, p as u8))
+    Ok(reciprocal_of(x as u8, p as u8))
 }

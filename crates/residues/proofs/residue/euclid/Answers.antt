@@ -5,19 +5,19 @@ use Rattle.residues.specs.Euclid.{euclid_start, euclid_fits, euclid_step, euclid
 use Rattle.residues.proofs.residue.euclid.Goals as goal
 
 pub loop-b-init : goal.loop-b-init
-loop-b-init c = euclid_start (prime_means _ c.requires.0) c.requires.1 c.requires.2
+loop-b-init c = rw (c.from-modulus.ensures, c.from-b.ensures) (euclid_start (prime_means _ c.requires.0) c.requires.1 c.requires.2)
 
 pub overflow_mul-next : goal.overflow_mul-next
-overflow_mul-next c = omega (arith, euclid_fits (prime_means c.args.p c.requires.0) c.loop-b.invariant (omega arith))
+overflow_mul-next c = rw c.from-modulus.ensures (omega (arith, euclid_fits (prime_means c.args.p c.requires.0) c.loop-b.invariant (omega arith)))
 
 pub overflow_add-next : goal.overflow_add-next
-overflow_add-next c = omega (arith, euclid_fits (prime_means c.args.p c.requires.0) c.loop-b.invariant (omega arith))
+overflow_add-next c = rw c.from-modulus.ensures (omega (arith, euclid_fits (prime_means c.args.p c.requires.0) c.loop-b.invariant (omega arith)))
 
 pub loop-b-smaller : goal.loop-b-smaller
 loop-b-smaller c = mod-lt c.loop-b.a (omega arith)
 
 pub loop-b-preserved : goal.loop-b-preserved
-loop-b-preserved c = euclid_step (prime_means c.args.p c.requires.0) c.loop-b.invariant (omega arith)
+loop-b-preserved c = rw c.from-modulus.ensures (euclid_step (prime_means c.args.p c.requires.0) c.loop-b.invariant (omega arith))
 
 pub returns : goal.returns
 returns c = euclid_end (prime_means c.args.p c.requires.0) c.loop-b.invariant (omega arith) (omega arith)

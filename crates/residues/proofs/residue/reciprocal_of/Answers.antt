@@ -6,4 +6,4 @@ use Rattle.residues.proofs.residue.reciprocal_of.Goals as goal
 
 pub returns-then-p-eq251 : goal.returns-then-p-eq251
 unfolding reciprocals
-returns-then-p-eq251 c = rw c.if-p-eq251.true (reciprocal_at c.args.x (omega arith))
+returns-then-p-eq251 c = rw (c.if-p-eq251.true, c.from.ensures) (reciprocal_at c.args.x (omega arith))
