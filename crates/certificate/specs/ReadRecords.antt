@@ -1,5 +1,5 @@
 -- The code's answers as the questions of reading: what one record comes to, and one record after the other.
-use Rattle.std.specs.Prelude.{◌≡◌, List, ℕ, ◌+◌, ◌*◌, ◌≤◌, ◌<◌, eqb, ltb, length}
+use Rattle.std.specs.Prelude.{◌≡◌, List, ℕ, ◌+◌, ◌*◌, ◌≤◌, ◌<◌, eqb, ltb, length, Result, Ok, Err, IsErrAnd}
 use Rattle.std.proofs.Math.Path.{refl, sym, ap, ap₂}
 use Rattle.std.proofs.Common.{◌∙◌, arith, leb→le}
 use Rattle.std.proofs.Math.Bool.{Bool, true, false, cond}
@@ -7,30 +7,36 @@ use Rattle.std.proofs.Math.Numerals.{add-one}
 use Rattle.std.proofs.Math.Dec.{leb}
 use borrow.Author.Tests.{lt-ltb, le-ltb, le-leb, lt-leb, ne_eqb}
 use Rattle.forms.specs.Numbers.{at}
-use Rattle.forms.specs.Answers.{Asked, fine, refuse, ◌then◌, ask, each}
+use Rattle.forms.specs.Answers.{Asked, fine, refuse, ◌then◌, ask, each, reason_of, refused_by, form_fault}
 use Rattle.forms.specs.Certificate.{size, offset}
 use Rattle.forms.specs.Reading.{order_and_prime, marked, record_asked, records_asked}
 use Rattle.forms.specs.Tests.{ask_fine, then_fine, fine_then, each_fine, refuse_each}
 use Rattle.forms.specs.OneRecord.{content_asked}
 use Rattle.forms.proofs.OneRecord.{record_read}
 use Rattle.forms.specs.declared.Fault.{Fault}
+use Rattle.forms.specs.Reasons.{reason_of_number}
+use Rattle.forms.specs.declared.Reason.{Reason}
+use Rattle.forms.specs.declared.Reason.TheVariants.{BytesAfter}
 use Rattle.forms.specs.declared.Fault.TheVariants.{Form}
 use Rattle.certificate.specs.Sizes.{offset_next}
-use Rattle.certificate.specs.declared.limits.Limits.{Limits}
-use Rattle.certificate.specs.declared.limits.Limits.TheVariants.{Kept, Refused}
+use Rattle.forms.specs.declared.Refusal.{Refusal}
 use Rattle.certificate.specs.declared.reading.Cursor.{Cursor}
-use Rattle.certificate.specs.declared.reading.Read.{Read}
-use Rattle.certificate.specs.declared.reading.Read.TheVariants.{Good, Bad}
 
 -- what an answer about n and p says
-abbrev pub limits_asked : Limits → Asked
-limits_asked Kept = fine
-limits_asked (Refused number place) = refuse number place
+abbrev pub limits_asked : Result (Unit {0}) Refusal → Asked
+limits_asked (Ok nothing) = fine
+limits_asked (Err refusal) = refused_by refusal
 
 -- where nothing is refused, the cursor goes to next
-abbrev pub read_of : Asked → ℕ → Read
-read_of fine next = Good (record { at = next })
-read_of (refuse number place) next = Bad (Form number place)
+abbrev pub read_of : Asked → ℕ → Result Cursor Fault
+read_of fine next = Ok (record { at = next })
+read_of (refuse number place) next = Err (Form (reason_of number) place)
+
+-- a refusal is the fault that a reading makes of it
+pub read_refused : (r : Refusal) (read : Result Cursor Fault) (q : Asked) (next : ℕ) → refused_by r ≡ q → IsErrAnd read (λ (fault : Fault). fault ≡ form_fault r) → read ≡ read_of q next
+read_refused r (Ok c) q next e h = absurd h
+read_refused r (Err fault) q next e h =
+    ap Err (h ∙ sym (ap (λ (x : Reason). Form x r.place) (reason_of_number r.reason))) ∙ ap (λ (x : Asked). read_of x next) e
 
 -- record k, which starts at start and has a payload of many bytes, up to the payload
 unfoldable pub frame_asked : ℕ → ℕ → ℕ → List ℕ → Asked
@@ -45,12 +51,12 @@ unfoldable pub residues_asked : ℕ → ℕ → ℕ → List ℕ → Asked
 residues_asked p start many s = each many (λ i. ask (ltb (at s (start + i)) p) 9 (start + i))
 
 -- what was refused is the refusal of all that begins with it
-module _ {r : Read} {fault : Fault} where
-  pub bad_then : (q t : Asked) (next end : ℕ) → r ≡ read_of q next → r ≡ Bad fault → r ≡ read_of (q then t) end
+module _ {r : Result Cursor Fault} {fault : Fault} where
+  pub bad_then : (q t : Asked) (next end : ℕ) → r ≡ read_of q next → r ≡ Err fault → r ≡ read_of (q then t) end
   bad_then fine t next end e f = cc
   bad_then (refuse number place) t next end e f = e
 
-  pub bad_each : (t : ℕ → Asked) (k count next end : ℕ) → k < count → each k t ≡ fine → r ≡ read_of (t k) next → r ≡ Bad fault → r ≡ read_of (each count t) end
+  pub bad_each : (t : ℕ → Asked) (k count next end : ℕ) → k < count → each k t ≡ fine → r ≡ read_of (t k) next → r ≡ Err fault → r ≡ read_of (each count t) end
   bad_each t k count next end l h e f = go (t k) refl e
     where
       go : (q : Asked) → t k ≡ q → r ≡ read_of q next → r ≡ read_of (each count t) end
@@ -58,7 +64,7 @@ module _ {r : Read} {fault : Fault} where
       go (refuse number place) d e = e ∙ sym (ap (λ (q : Asked). read_of q end) (refuse_each count t k number place l (each_fine k t h) d))
 
 -- what was read had nothing to refuse, and the cursor is past it
-pub good_read : {r : Read} {c : Cursor} (q : Asked) (next : ℕ) → r ≡ read_of q next → r ≡ Good c → (q ≡ fine) × (c.at ≡ next)
+pub good_read : {r : Result Cursor Fault} {c : Cursor} (q : Asked) (next : ℕ) → r ≡ read_of q next → r ≡ Ok c → (q ≡ fine) × (c.at ≡ next)
 good_read {r} {c} fine next e f = (refl, (let w : record { at = next } ≡ c = cc in sym (ap (λ (x : Cursor). x.at) w)))
 good_read (refuse number place) next e f = (cc, cc)
 
@@ -81,15 +87,15 @@ module _ (p start : ℕ) (s : List ℕ) where
   no_residue i many m h l = refuse_each many _ i 9 (start + i) m (each_fine i _ h) (simp (le-ltb _ _ l))
 
 -- record k, of which the code reads the frame at start, with many bytes of payload
-module _ (p n : ℕ) (s : List ℕ) (k : ℕ) {start many : ℕ} (starts : start ≡ offset n k) (sized : many ≡ size n k) {r : Read} (framed : r ≡ read_of (frame_asked k start many s) (start + 4)) where
+module _ (p n : ℕ) (s : List ℕ) (k : ℕ) {start many : ℕ} (starts : start ≡ offset n k) (sized : many ≡ size n k) {r : Result Cursor Fault} (framed : r ≡ read_of (frame_asked k start many s) (start + 4)) where
   record_asked_parts : record_asked p n s k ≡ (frame_asked k start many s then content_asked p n s k)
   unfolding record_asked frame_asked
   record_asked_parts = rw (starts, sized, add-one (offset n k))
 
-  pub record_bad : {fault : Fault} (end : ℕ) → r ≡ Bad fault → r ≡ read_of (record_asked p n s k) end
+  pub record_bad : {fault : Fault} (end : ℕ) → r ≡ Err fault → r ≡ read_of (record_asked p n s k) end
   record_bad end e = bad_then (frame_asked k start many s) (content_asked p n s k) (start + 4) end framed e ∙ sym (ap (λ (q : Asked). read_of q end) record_asked_parts)
 
-  module _ {payload : Cursor} (good : r ≡ Good payload) where
+  module _ {payload : Cursor} (good : r ≡ Ok payload) where
     frame_fine : frame_asked k start many s ≡ fine
     frame_fine = (good_read (frame_asked k start many s) (start + 4) framed good).0
 
@@ -122,6 +128,10 @@ module _ (p n : ℕ) (s : List ℕ) (k : ℕ) {start many : ℕ} (starts : start
         let content : content_asked p n s k ≡ residues_asked p (offset n k + 4) (size n k) s = ap (λ (b : Bool). cond b (order_and_prime n p) (residues_asked p (offset n k + 4) (size n k) s)) (ne_eqb k 0 h) in
         ap₂ read_of (ap₂ (λ (x y : ℕ). residues_asked p x y s) (payload_start ∙ ap (λ (x : ℕ). x + 4) starts) sized ∙ sym (record_content ∙ content)) next_record
 
+-- the record that was read is record k
+pub read_here : {r : Result Cursor Fault} {p n x y j k : ℕ} (s : List ℕ) → r ≡ read_of (record_asked p n s j) (offset n (j + 1)) → p ≡ x → n ≡ y → j ≡ k → r ≡ read_of (record_asked x y s k) (offset y (k + 1))
+read_here s h e f g = rw (← e, ← f, ← g) h
+
 -- the first k records have been read
 module _ (count : ℕ) (s : List ℕ) where
   abbrev records : ℕ → Asked
@@ -130,7 +140,7 @@ module _ (count : ℕ) (s : List ℕ) where
   abbrev end : ℕ
   end = offset (at s 5) count
 
-  pub records_bad : {r : Read} {fault : Fault} (k next : ℕ) → k < count → each k records ≡ fine → r ≡ read_of (records k) next → r ≡ Bad fault → r ≡ read_of (records_asked count s) end
+  pub records_bad : {r : Result Cursor Fault} {fault : Fault} (k next : ℕ) → k < count → each k records ≡ fine → r ≡ read_of (records k) next → r ≡ Err fault → r ≡ read_of (records_asked count s) end
   unfolding records_asked
   records_bad k next l h e f = bad_then (each count records) (ask (leb (length s) end) 10 end) end end (bad_each records k count next end l h e f) f
 
@@ -148,14 +158,14 @@ module _ (count : ℕ) (s : List ℕ) where
     every_good : each count records ≡ fine
     every_good = ap (λ (i : ℕ). each i records) (sym all) ∙ good
 
-    pub records_after : start < length s → Bad (Form 10 start) ≡ read_of (records_asked count s) end
+    pub records_after : start < length s → Err (Form BytesAfter start) ≡ read_of (records_asked count s) end
     unfolding records_asked ask
     records_after l =
         let after : leb (length s) end ≡ false = lt-leb (length s) end (let e = ends in omega arith) in
-        ap (λ (x : ℕ). Bad (Form 10 x)) ends ∙ sym (ap (λ (q : Asked). read_of q end) (fine_then every_good ∙ ap (λ (b : Bool). cond b fine (refuse 10 end)) after))
+        ap (λ (x : ℕ). Err (Form BytesAfter x)) ends ∙ sym (ap (λ (q : Asked). read_of q end) (fine_then every_good ∙ ap (λ (b : Bool). cond b fine (refuse 10 end)) after))
 
-    pub records_fine : length s ≤ start → Good (record { at = start }) ≡ read_of (records_asked count s) end
+    pub records_fine : length s ≤ start → Ok (record { at = start }) ≡ read_of (records_asked count s) end
     unfolding records_asked ask
     records_fine l =
         let none : leb (length s) end ≡ true = le-leb (length s) end (let e = ends in omega arith) in
-        ap (λ (x : ℕ). Good (record { at = x })) ends ∙ sym (ap (λ (q : Asked). read_of q end) (fine_then every_good ∙ ap (λ (b : Bool). cond b fine (refuse 10 end)) none))
+        ap (λ (x : ℕ). Ok (record { at = x })) ends ∙ sym (ap (λ (q : Asked). read_of q end) (fine_then every_good ∙ ap (λ (b : Bool). cond b fine (refuse 10 end)) none))

@@ -3,32 +3,26 @@ ghost use Rattle.std.specs.Prelude.{◌≡◌};
 ghost use Rattle.forms.specs.Reading.{order_and_prime};
 ghost use Rattle.certificate.specs.ReadRecords.{limits_asked};
 
-use forms::ORDER;
+use forms::{ORDER, Reason, Refusal};
 use residues::residue::is_prime;
 
 const LARGEST_ORDER: u64 = ORDER as u64;
 
-// n is refused by 1, then p by 2.
-#[derive(Clone, Copy)]
-pub enum Limits {
-    Kept,
-    Refused { number: u8, place: u64 },
-}
-
-pub fn order_and_prime(n: u64, p: u64) -> Limits
+// n is refused first, then p.
+pub fn order_and_prime(n: u64, p: u64) -> Result<(), Refusal>
     ensures { limits_asked result ≡ order_and_prime n p }
 {
     if !((1 <= n) & (n <= LARGEST_ORDER)) {
-        return Limits::Refused {
-            number: 1,
+        return Err(Refusal {
+            reason: Reason::OrderOutOfRange,
             place: n,
-        };
+        });
     }
     if !is_prime(p) {
-        return Limits::Refused {
-            number: 2,
+        return Err(Refusal {
+            reason: Reason::NotPrime,
             place: p,
-        };
+        });
     }
-    Limits::Kept
+    Ok(())
 }

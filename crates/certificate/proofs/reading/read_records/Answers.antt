@@ -1,42 +1,50 @@
--- The loop: the first k records refuse nothing, and the cursor stands where record k starts.
-use Rattle.std.proofs.Common.{rules, arith, refl, sym, ◌∙◌, ap, ap₂, ℕ, ◌+◌}
+-- The loop: the first records refuse nothing, and the cursor stands where the next one starts.
+use Rattle.std.proofs.Common.{arith, refl, sym, ◌∙◌, ap₂, ◌+◌, ◌≡◌, get_or, take}
 use Rattle.forms.specs.Numbers.{at}
 use Rattle.forms.specs.Answers.{each}
 use Rattle.forms.specs.Certificate.{offset}
 use Rattle.forms.specs.Reading.{record_asked}
+use Rattle.certificate.specs.Numbering.{number_of, records, first_records, number_among}
+use Rattle.certificate.specs.declared.records.Record.TheVariants.{HD}
 use Rattle.certificate.specs.Sizes.{offset_zero}
-use Rattle.certificate.specs.ReadRecords.{read_of, good_read, each_next, records_bad, records_after, records_fine}
+use Rattle.certificate.specs.ReadRecords.{good_read, read_here, each_next, records_bad, records_after, records_fine}
 use Rattle.certificate.proofs.reading.read_records.Goals as goal
+use Rattle.certificate.proofs.reading.read_records.Goals.{After-read_record-arg-1}
 
-pub loop-k-init : goal.loop-k-init
+pub loop-record-init : goal.loop-record-init
 unfolding each
-loop-k-init c = (search rules, (offset_zero (at c.args.s.now 5), refl))
+loop-record-init c = (offset_zero (at c.args.s.now 5), refl)
+
+-- the record that a turn reads has the number of the turn
+here : (c : After-read_record-arg-1) → number_of (get_or (take c.args.count records) c.loop-record.record-index HD) ≡ c.loop-record.record-index
+here c = number_among c.args.count c.requires c.loop-record.record-index HD c.loop-record-test.true
 
 pub read_record-read-requires : goal.read_record-read-requires
-read_record-read-requires c =
-    (search rules, c.loop-k.invariant.1.0 ∙ ap (λ (n : ℕ). offset n c.loop-k.k) (sym c.byte-n.ensures))
+read_record-read-requires c = c.loop-record.invariant.0 ∙ sym (ap₂ offset c.byte-n.ensures (here c))
 
 pub returns-in_default : goal.returns-in_default
 returns-in_default c =
     let a = c.args in
-    records_bad a.count a.s.now c.loop-k.k _ c.loop-k-test.true c.loop-k.invariant.1.1
-    (c.read_record-read.ensures ∙ ap₂ (λ (p n : ℕ). read_of (record_asked p n a.s.now c.loop-k.k) (offset n (c.loop-k.k + 1))) c.byte-p.ensures c.byte-n.ensures)
-    c.in_default.is
+    let e = first_records a.count c.requires in
+    let read = read_here a.s.now c.read_record-read.ensures c.byte-p.ensures c.byte-n.ensures (number_among a.count c.requires c.loop-record.record-index HD c.loop-record-test.true) in
+    records_bad a.count a.s.now c.loop-record.record-index _ (omega arith) c.loop-record.invariant.1 read c.in_default.is
 
-pub loop-k-preserved : goal.loop-k-preserved
-loop-k-preserved c =
+pub loop-record-preserved : goal.loop-record-preserved
+loop-record-preserved c =
     let a = c.args in
-    let k = c.loop-k.k in
-    let read = c.read_record-read.ensures ∙ ap₂ (λ (p n : ℕ). read_of (record_asked p n a.s.now k) (offset n (k + 1))) c.byte-p.ensures c.byte-n.ensures in
-    let good = good_read (record_asked (at a.s.now 4) (at a.s.now 5) a.s.now k) (offset (at a.s.now 5) (k + 1)) read c.in-Good.is in
-    (search rules, (good.1, each_next k _ c.loop-k.invariant.1.1 good.0))
+    let k = c.loop-record.record-index in
+    let read = read_here a.s.now c.read_record-read.ensures c.byte-p.ensures c.byte-n.ensures (number_among a.count c.requires k HD c.loop-record-test.true) in
+    let good = good_read (record_asked (at a.s.now 4) (at a.s.now 5) a.s.now k) (offset (at a.s.now 5) (k + 1)) read c.in-Ok.is in
+    (good.1, each_next k _ c.loop-record.invariant.1 good.0)
 
 pub returns-then-end-s : goal.returns-then-end-s
 returns-then-end-s c =
     let a = c.args in
-    c.refused.ensures ∙ records_after a.count a.s.now {k = c.loop-k.k} (omega arith) c.loop-k.invariant.1.0 c.loop-k.invariant.1.1 (omega arith)
+    let e = first_records a.count c.requires in
+    c.refused.ensures ∙ records_after a.count a.s.now {k = c.loop-record.record-index} (omega arith) c.loop-record.invariant.0 c.loop-record.invariant.1 (omega arith)
 
 pub returns : goal.returns
 returns c =
     let a = c.args in
-    records_fine a.count a.s.now {k = c.loop-k.k} (omega arith) c.loop-k.invariant.1.0 c.loop-k.invariant.1.1 (omega arith)
+    let e = first_records a.count c.requires in
+    records_fine a.count a.s.now {k = c.loop-record.record-index} (omega arith) c.loop-record.invariant.0 c.loop-record.invariant.1 (omega arith)
