@@ -1,5 +1,5 @@
 -- Finding: which record a mark stands for, and what it finds.
-use Rattle.std.specs.Prelude.{◌≡◌, true, false, ℕ, zero, suc, ◌+◌, ◌-◌, ◌≤◌, ◌<◌, T, eqb, length, take, drop}
+use Rattle.std.specs.Prelude.{◌≡◌, true, false, ℕ, zero, suc, ◌+◌, ◌-◌, ◌≤◌, ◌<◌, T, eqb, length, take, drop, Option, Some, None, Result, Ok, Err}
 use Rattle.std.proofs.Math.Path.{refl}
 use Rattle.std.proofs.Common.{sym, ◌∙◌, ap, ap₂, subst, arith, eqb→eq, ext_get_or}
 use mathlib.Core.List.{List, []}
@@ -10,33 +10,28 @@ use Rattle.forms.specs.Reading.{marked, reading, certificate_of}
 use Rattle.forms.specs.Operations.{is_mark, part_found, Finds}
 use Rattle.forms.specs.Tests.{equal_holds, and_parts, and_holds}
 use Rattle.forms.proofs.Layouts.{payload_read, reading_laid_out}
+use Rattle.forms.proofs.Records.{mark_length}
 use Rattle.forms.proofs.Findings.{found_by_mark, nothing_found, payload_not_empty}
 use Rattle.forms.specs.declared.Fault.{Fault}
-use Rattle.certificate.specs.Sizes.{mark_by_table, offset_next}
+use Rattle.certificate.specs.Numbering.{number_of, number_small}
+use Rattle.certificate.specs.Sizes.{offset_next}
+use Rattle.certificate.specs.declared.records.Record.{Record}
 use Rattle.certificate.specs.ReadRecords.{read_of, good_read, payload_within}
 use Rattle.certificate.specs.declared.reading.Cursor.{Cursor}
-use Rattle.certificate.specs.declared.reading.Read.{Read}
-use Rattle.certificate.specs.declared.reading.Read.TheVariants.{Good, Bad}
 
--- m is the mark of record k, or, where k is past the last record, no mark
-pub record Marks (m : List ℕ) (k : ℕ) : Type 0 where
-  pub one : k < 10 → T (is_mark m k)
-  pub none : 10 ≤ k → (i : ℕ) → i < 10 → T (is_mark m i) → ⊥
+-- m is the mark of the record, or of none of the ten
+abbrev pub Marks : List ℕ → Option Record → Type 0
+Marks m (Some kind) = T (is_mark m (number_of kind))
+Marks m None = (i : ℕ) → i < 10 → T (is_mark m i) → ⊥
 
 module _ (m : List ℕ) where
-  pub marked_here : (k : ℕ) → k < 10 → length m ≡ 2 → marked k (at m 0) (at m 1) ≡ true → Marks m k
-  marked_here k l two e = record {
-    one = λ q. and_holds (eqb (length m) 2) (marked k (at m 0) (at m 1)) (equal_holds _ _ two) (subst T (sym e) tt);
-    none = λ q. absurd (omega arith);
-  }
+  pub marked_here : (kind : Record) → length m ≡ 2 → marked (number_of kind) (at m 0) (at m 1) ≡ true → Marks m (Some kind)
+  marked_here kind two e = and_holds (eqb (length m) 2) (marked (number_of kind) (at m 0) (at m 1)) (equal_holds _ _ two) (subst T (sym e) tt)
 
   pub not_marked_here : (k : ℕ) → marked k (at m 0) (at m 1) ≡ false → T (is_mark m k) → ⊥
   not_marked_here k e t = subst T e (and_parts (eqb (length m) 2) (marked k (at m 0) (at m 1)) t).1
 
-  pub marked_nowhere : (k : ℕ) → 10 ≤ k → ((i : ℕ) → i < 10 → T (is_mark m i) → ⊥) → Marks m k
-  marked_nowhere k l h = record { one = λ q. absurd (omega arith); none = λ q. h }
-
-  pub not_two_bytes : (length m ≡ 2 → ⊥) → (i : ℕ) → i < 10 → T (is_mark m i) → ⊥
+  pub not_two_bytes : (length m ≡ 2 → ⊥) → Marks m None
   not_two_bytes h i l t = h (eqb→eq _ _ (and_parts (eqb (length m) 2) (marked i (at m 0) (at m 1)) t).0)
 
   pub is_the_mark : (k : ℕ) → k < 10 → T (is_mark m k) → m ≡ mark k
@@ -44,7 +39,7 @@ module _ (m : List ℕ) where
       let a = and_parts (eqb (length m) 2) (marked k (at m 0) (at m 1)) t in
       let b = and_parts (eqb (at m 0) (at (mark k) 0)) (eqb (at m 1) (at (mark k) 1)) a.1 in
       let two : length m ≡ 2 = eqb→eq _ _ a.0 in
-      ext_get_or 0 m (mark k) (two ∙ ap length (mark_by_table k l)) (λ i q. same (eqb→eq _ _ b.0) (eqb→eq _ _ b.1) i (omega arith))
+      ext_get_or 0 m (mark k) (two ∙ sym (mark_length k l)) (λ i q. same (eqb→eq _ _ b.0) (eqb→eq _ _ b.1) i (omega arith))
     where
       same : at m 0 ≡ at (mark k) 0 → at m 1 ≡ at (mark k) 1 → (i : ℕ) → i < 2 → at m i ≡ at (mark k) i
       same e f zero q = e
@@ -52,8 +47,8 @@ module _ (m : List ℕ) where
       same e f (suc (suc i)) q = absurd (omega arith)
 
 -- what find answers, from what it has read and which record is marked
-module _ (s : List ℕ) {r : Read} (next : ℕ) (read : r ≡ read_of (reading s) next) where
-  pub found_unread : {m found : List ℕ} {fault : Fault} → r ≡ Bad fault → found ≡ [] → Finds s m found
+module _ (s : List ℕ) {r : Result Cursor Fault} (next : ℕ) (read : r ≡ read_of (reading s) next) where
+  pub found_unread : {m found : List ℕ} {fault : Fault} → r ≡ Err fault → found ≡ [] → Finds s m found
   unfolding part_found
   found_unread {m} {found} {fault} bad e = record { answered = e ∙ go (reading s) read }
     where
@@ -61,18 +56,20 @@ module _ (s : List ℕ) {r : Read} (next : ℕ) (read : r ≡ read_of (reading s
       go fine f = cc
       go (refuse number place) f = refl
 
-  module _ {c : Cursor} (good : r ≡ Good c) where
+  module _ {c : Cursor} (good : r ≡ Ok c) where
     fine_reading : reading s ≡ fine
     fine_reading = (good_read (reading s) next read good).0
 
     pub found_complete : (k : ℕ) → k < 10 → offset (at s 5) (k + 1) ≤ length s
     found_complete = payload_within 10 s fine_reading
 
-    pub found_marked : {m found : List ℕ} (k : ℕ) → k < 10 → Marks m k → found ≡ part (at s 5) k s → Finds s m found
-    found_marked {m} k l h e = record { answered = e ∙ sym (ap (part_found (reading s) s) (is_the_mark m k l (h.one l)) ∙ found_by_mark s k l fine_reading) }
+    pub found_marked : {m found : List ℕ} (kind : Record) → Marks m (Some kind) → found ≡ part (at s 5) (number_of kind) s → Finds s m found
+    found_marked {m} kind h e =
+        let k = number_of kind in let l = number_small kind in
+        record { answered = e ∙ sym (ap (part_found (reading s) s) (is_the_mark m k l h) ∙ found_by_mark s k l fine_reading) }
 
-pub found_unmarked : {s m found : List ℕ} (k : ℕ) → 10 ≤ k → Marks m k → found ≡ [] → Finds s m found
-found_unmarked {s} {m} k l h e = record { answered = e ∙ sym (nothing_found s m (h.none l)) }
+pub found_unmarked : {s m found : List ℕ} → Marks m None → found ≡ [] → Finds s m found
+found_unmarked {s} {m} h e = record { answered = e ∙ sym (nothing_found s m h) }
 
 -- where the certificate is read and the mark is one of the ten, the part is the payload of that record, and not empty
 pub found_payload : (s m found : List ℕ) → Finds s m found → reading s ≡ fine → (k : ℕ) → k < 10 → T (is_mark m k) → found ≡ payload (certificate_of s) k
@@ -81,7 +78,7 @@ found_payload s m found h e k l t = h.answered ∙ ap (part_found (reading s) s)
 pub found_not_empty : (s m found : List ℕ) → Finds s m found → reading s ≡ fine → (k : ℕ) → k < 10 → T (is_mark m k) → 0 < length found
 found_not_empty s m found h e k l t = rw (found_payload s m found h e k l t) (payload_not_empty (certificate_of s) (reading_laid_out s e) k l)
 
--- the payload of record k, from behind its head to the next record
+-- the payload of record k, from behind its head to its end
 pub part_by_offsets : (n k : ℕ) (s : List ℕ) {start next : ℕ} → start ≡ offset n k → next ≡ offset n (k + 1) → take (next - (start + 4)) (drop (start + 4) s) ≡ part n k s
 unfolding part
 part_by_offsets n k s {start} {next} e f =

@@ -1,44 +1,43 @@
 // Finding: the payload that a mark finds, as a part of the certificate.
 #![tactic(auto)]
 
-ghost use Rattle.std.specs.Prelude.{◌≡◌, [], ◌+◌, ◌≤◌, ◌<◌, length};
+ghost use Rattle.std.specs.Prelude.{◌≡◌, [], ◌+◌, ◌≤◌, length};
 ghost use Rattle.forms.specs.Certificate.{offset, part};
 ghost use Rattle.forms.specs.Operations.{Finds};
+ghost use Rattle.certificate.specs.Numbering.{number_of};
 ghost use Rattle.finding.specs.Found.{Marks};
 
-use certificate::reading::{Read, byte, read_certificate};
-use certificate::records::{RECORDS, is_marked, record_start};
+use certificate::reading::{byte, read_certificate};
+use certificate::records::{RECORDS, Record};
 
-// The record whose mark is exactly m; RECORDS where there is none.
-pub fn record_marked(m: &[u8]) -> usize
+// The record whose mark is exactly m, if there is one.
+pub fn record_marked(m: &[u8]) -> Option<Record>
     ensures { Marks m.now result }
 {
     if m.len() != 2 {
-        return RECORDS;
+        return None;
     }
-    let mut k = 0;
-    while k < RECORDS {
-        if is_marked(k, m[0], m[1]) {
-            return k;
+    for kind in &RECORDS {
+        if kind.is_marked(m[0], m[1]) {
+            return Some(*kind);
         }
-        k = k + 1;
     }
-    k
+    None
 }
 
 fn nothing<'a>(certificate: &'a [u8]) -> &'a [u8]
     ensures { result.now ≡ [] }
 {
-    &certificate[0..0]
+    &certificate[..0]
 }
 
-// The payload of record k.
-pub fn payload<'a>(certificate: &'a [u8], n: u8, k: usize) -> &'a [u8]
-    requires { (k < 10) × (offset n (k + 1) ≤ length certificate.now) }
-    ensures { result.now ≡ part n k certificate.now }
+// The payload of one record.
+pub fn payload<'a>(certificate: &'a [u8], n: u8, kind: Record) -> &'a [u8]
+    requires { offset n (number_of kind + 1) ≤ length certificate.now }
+    ensures { result.now ≡ part n (number_of kind) certificate.now }
 {
-    let start = record_start(n, k) + 4;
-    let end = record_start(n, k + 1);
+    let start = kind.start(n) + 4;
+    let end = kind.end(n);
     &certificate[start..end]
 }
 
@@ -46,13 +45,11 @@ pub fn payload<'a>(certificate: &'a [u8], n: u8, k: usize) -> &'a [u8]
 pub fn find<'a, 'b>(certificate: &'a [u8], mark: &'b [u8]) -> &'a [u8]
     ensures { Finds certificate.now mark.now result.now }
 {
-    let read = read_certificate(certificate);
-    let Read::Good(_) = read else {
+    let Ok(_) = read_certificate(certificate) else {
         return nothing(certificate);
     };
-    let k = record_marked(mark);
-    if RECORDS <= k {
+    let Some(kind) = record_marked(mark) else {
         return nothing(certificate);
-    }
-    payload(certificate, byte(certificate, 5), k)
+    };
+    payload(certificate, byte(certificate, 5), kind)
 }

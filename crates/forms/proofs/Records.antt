@@ -22,7 +22,7 @@ ten_cases P a b c d e f g h i j (suc (suc (suc (suc (suc (suc (suc (suc zero))))
 ten_cases P a b c d e f g h i j (suc (suc (suc (suc (suc (suc (suc (suc (suc zero))))))))) l = j
 ten_cases P a b c d e f g h i j (suc (suc (suc (suc (suc (suc (suc (suc (suc (suc k)))))))))) l = absurd (omega arith)
 
-mark_length : (k : ℕ) → k < 10 → length (mark k) ≡ 2
+pub mark_length : (k : ℕ) → k < 10 → length (mark k) ≡ 2
 unfolding mark every
 mark_length k l = eqb→eq _ 2 (every_at 10 (λ i. eqb (length (mark i)) 2) tt k l)
 
