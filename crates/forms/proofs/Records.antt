@@ -32,7 +32,7 @@ two_bytes (x ∷ []) e = absurd (omega arith)
 two_bytes (x ∷ y ∷ []) e = refl
 two_bytes (x ∷ y ∷ z ∷ s) e = absurd (omega arith)
 
-mark_bytes : (k : ℕ) → k < 10 → mark k ≡ at (mark k) 0 ∷ at (mark k) 1 ∷ []
+pub mark_bytes : (k : ℕ) → k < 10 → mark k ≡ at (mark k) 0 ∷ at (mark k) 1 ∷ []
 mark_bytes k l = two_bytes (mark k) (mark_length k l)
 
 -- a record, byte by byte

@@ -1,7 +1,7 @@
 -- Bytes put into a list at an offset: what stands before and behind them is untouched, and puts one after the other are one.
 use Rattle.std.specs.Prelude.{◌≡◌, List, [], ◌∷◌, ◌++◌, ℕ, suc, ◌+◌, ◌≤◌, ◌<◌, length, take, drop, set}
 use Rattle.std.proofs.Common.{sym, ◌∙◌, ap, subst, append_assoc, add_assoc, add-one, arith, length-append, length-drop, length-take-le, take_at, drop_at, drop-drop}
-use Rattle.std.proofs.Math.Seq.{paste, paste-zero, append_snoc, take-length}
+use Rattle.std.proofs.Math.Seq.{paste-zero, append_snoc}
 use Rattle.std.proofs.lemmas.List.{set_split}
 
 unfoldable pub put : List ℕ → ℕ → List ℕ → List ℕ
@@ -31,9 +31,10 @@ pub set_is_put : (d : List ℕ) (at byte : ℕ) → at < length d → set d at b
 unfolding put
 set_is_put d at byte h = rw (add-one at) (set_split d at byte h ∙ sym (append_snoc (take at d) byte (drop (suc at) d)))
 
-pub paste_is_put : (d : List ℕ) (at : ℕ) (bytes : List ℕ) → paste d at bytes (length bytes) ≡ put d at bytes
+-- a part in the middle, overwritten, is a put
+pub middle_is_put : (d : List ℕ) (at many : ℕ) (bytes part : List ℕ) → many ≡ length bytes → part ≡ bytes → take at d ++ (part ++ drop many (drop at d)) ≡ put d at bytes
 unfolding put
-paste_is_put d at bytes = simp take-length
+middle_is_put d at many bytes part e f = rw (f, e, drop-drop (length bytes) at d) (sym (append_assoc (take at d) bytes (drop (at + length bytes) d)))
 
 -- a put, and one more where it ended
 pub puts_then : {at next end : ℕ} {xs ys before between after : List ℕ} → Puts at xs before between next → Puts next ys between after end → at + length xs ≤ length before → Puts at (xs ++ ys) before after end

@@ -1,5 +1,5 @@
 -- The ten records put into the output one after the other: the layout, and behind it what stood there before.
-use Rattle.std.specs.Prelude.{◌≡◌, ℕ, suc, ◌+◌, ◌*◌, ◌≤◌, ◌<◌, ◌%◌, ◌/◌, length}
+use Rattle.std.specs.Prelude.{◌≡◌, ℕ, suc, ◌+◌, ◌≤◌, ◌<◌, ◌%◌, ◌/◌, length}
 use Rattle.std.proofs.Math.Path.{sym, ap}
 use Rattle.std.proofs.Common.{◌∙◌, zero-add, arith}
 use mathlib.Core.List.{List, [], ◌∷◌, ◌++◌, append_assoc}
@@ -7,9 +7,8 @@ use Rattle.std.proofs.Math.ListN.{drop}
 use Rattle.forms.specs.Numbers.{at}
 use Rattle.forms.specs.Certificate.{Certificate, mark, payload, record_bytes, joined, layout, size, offset, certificate_length}
 use Rattle.forms.specs.Words.{LaidOut}
-use Rattle.forms.proofs.Records.{record_length, joined_length, offset_within}
+use Rattle.forms.proofs.Records.{mark_bytes, record_length, joined_length, offset_within}
 use Rattle.forms.proofs.Payloads.{payload_length}
-use Rattle.certificate.specs.Sizes.{marks, mark_by_table}
 use Rattle.writing.specs.Put.{put, put_nothing, put_put}
 
 -- mark and length of record k
@@ -20,13 +19,13 @@ pub head_then_payload : (k many : ℕ) (s : List ℕ) → length s ≡ many → 
 unfolding head_bytes record_bytes
 head_then_payload k many s e = append_assoc (mark k) _ s ∙ ap (λ (z : ℕ). mark k ++ (z % 256 ∷ z / 256 ∷ s)) (sym e)
 
--- the head, byte by byte, as the code puts it
-pub head_by_table : (k many : ℕ) → k < 10 → at marks (2 * k) ∷ at marks (2 * k + 1) ∷ many % 256 ∷ many / 256 ∷ [] ≡ head_bytes k many
+-- the head, byte by byte
+pub head_by_bytes : (k many : ℕ) → k < 10 → at (mark k) 0 ∷ at (mark k) 1 ∷ many % 256 ∷ many / 256 ∷ [] ≡ head_bytes k many
 unfolding head_bytes
-head_by_table k many l = ap (λ (m : List ℕ). m ++ (many % 256 ∷ many / 256 ∷ [])) (mark_by_table k l)
+head_by_bytes k many l = ap (λ (m : List ℕ). m ++ (many % 256 ∷ many / 256 ∷ [])) (sym (mark_bytes k l))
 
 pub head_length : (k many : ℕ) → k < 10 → length (head_bytes k many) ≡ 4
-head_length k many l = sym (ap length (head_by_table k many l))
+head_length k many l = sym (ap length (head_by_bytes k many l))
 
 -- the first k records stand in the output, and the rest is as it was
 pub record RecordsPut (c : Certificate) (k : ℕ) (before after : List ℕ) : Type 0 where

@@ -2,10 +2,11 @@
 #![tactic(auto)]
 
 ghost use Rattle.std.specs.Prelude.{[], ◌∷◌, ◌+◌, ◌≤◌, ◌<◌, length};
+ghost use Rattle.certificate.specs.Numbering.{number_of};
 ghost use Rattle.writing.specs.Put.{Puts};
 ghost use Rattle.writing.specs.Written.{head_bytes};
 
-use certificate::records::MARKS;
+use certificate::records::Record;
 
 pub fn put_byte(out: &mut [u8], at: usize, byte: u8) -> usize
     requires { at < length out.old }
@@ -19,22 +20,20 @@ pub fn put_bytes(out: &mut [u8], at: usize, bytes: &[u8]) -> usize
     requires { at + length bytes.now ≤ length out.old }
     ensures { Puts at bytes.now out.old out.new result }
 {
-    let count = bytes.len();
-    let mut i = 0;
-    while i < count {
-        out[at + i] = bytes[i];
-        i = i + 1;
-    }
-    at + count
+    let end = at + bytes.len();
+    out[at..end].copy_from_slice(bytes);
+    end
 }
 
-// The mark of record k, and the length of its payload, low byte first.
-pub fn put_head(out: &mut [u8], at: usize, k: usize, size: usize) -> usize
-    requires { (k < 10) × (size < 65536) × (at + 4 ≤ length out.old) }
-    ensures { Puts at (head_bytes k size) out.old out.new result }
+// The mark of a record, and the length of its payload, low byte first.
+pub fn put_head(out: &mut [u8], at: usize, kind: Record, size: usize) -> usize
+    requires { (size < 65536) × (at + 4 ≤ length out.old) }
+    ensures { Puts at (head_bytes (number_of kind) size) out.old out.new result }
 {
-    let second = put_byte(out, at, MARKS[2 * k]);
-    let low = put_byte(out, second, MARKS[2 * k + 1]);
-    let high = put_byte(out, low, (size % 256) as u8);
-    put_byte(out, high, (size / 256) as u8)
+    let mark = kind.mark();
+    put_bytes(
+        out,
+        at,
+        &[mark[0], mark[1], (size % 256) as u8, (size / 256) as u8],
+    )
 }
