@@ -1,80 +1,74 @@
 // The number and the place of each answer of the public operations, as document 01 counts them.
 #![tactic(auto)]
 
-ghost use Rattle.std.specs.Prelude.{◌≡◌};
-ghost use Rattle.forms.specs.Answers.{fault_number, fault_place, verdict_number, verdict_place, analysed_number, analysed_place, reciprocal_number, reciprocal_value};
+ghost use Rattle.std.specs.Prelude.{◌≡◌, ℕ};
+ghost use Rattle.forms.specs.Answers.{fault_number, fault_place, refusal_number, refusal_place, answer_number, answer_place};
 
-use forms::{Analysed, Fault, Reciprocal, Verdict};
+use forms::{Fault, Refusal};
 
-pub fn fault_number(fault: Fault) -> u8
-    ensures { result ≡ fault_number fault }
-{
-    match fault {
-        Fault::Form { number, offset: _ } => number,
-        Fault::Rule(_) => 11,
+// What refuses has a number and a place.
+pub trait Numbered {
+    ghost number_is: { Self → ℕ };
+
+    ghost place_is: { Self → ℕ };
+
+    fn number(self) -> u8
+        ensures { result ≡ number_is self };
+
+    fn place(self) -> u64
+        ensures { result ≡ place_is self };
+}
+
+impl Numbered for Refusal {
+    ghost number_is = { refusal_number };
+
+    ghost place_is = { refusal_place };
+
+    fn number(self) -> u8 {
+        self.reason.number()
+    }
+
+    fn place(self) -> u64 {
+        self.place
     }
 }
 
-pub fn fault_place(fault: Fault) -> u64
-    ensures { result ≡ fault_place fault }
-{
-    match fault {
-        Fault::Form { number: _, offset } => offset,
-        Fault::Rule(rule) => rule as u64,
+impl Numbered for Fault {
+    ghost number_is = { fault_number };
+
+    ghost place_is = { fault_place };
+
+    fn number(self) -> u8 {
+        match self {
+            Fault::Form { reason, offset: _ } => reason.number(),
+            Fault::Rule(_) => 11,
+        }
+    }
+
+    fn place(self) -> u64 {
+        match self {
+            Fault::Form { reason: _, offset } => offset,
+            Fault::Rule(rule) => u64::from(rule),
+        }
     }
 }
 
-pub fn verdict_number(verdict: Verdict) -> u8
-    ensures { result ≡ verdict_number verdict }
+// 0, or the number of what refuses.
+pub fn number<E: Numbered>(answer: Result<u64, E>) -> u8
+    ensures { result ≡ answer_number E.number_is answer }
 {
-    match verdict {
-        Verdict::Accepted(_) => 0,
-        Verdict::Refused(fault) => fault_number(fault),
+    match answer {
+        Ok(_) => 0,
+        Err(refusal) => refusal.number(),
     }
 }
 
-pub fn verdict_place(verdict: Verdict) -> u64
-    ensures { result ≡ verdict_place verdict }
+// The length or the residue, or the place of what refuses.
+pub fn place<E: Numbered>(answer: Result<u64, E>) -> u64
+    ensures { result ≡ answer_place E.place_is answer }
 {
-    match verdict {
-        Verdict::Accepted(length) => length,
-        Verdict::Refused(fault) => fault_place(fault),
-    }
-}
-
-pub fn analysed_number(analysed: Analysed) -> u8
-    ensures { result ≡ analysed_number analysed }
-{
-    match analysed {
-        Analysed::Written(_) => 0,
-        Analysed::Refused { number, place: _ } => number,
-    }
-}
-
-pub fn analysed_place(analysed: Analysed) -> u64
-    ensures { result ≡ analysed_place analysed }
-{
-    match analysed {
-        Analysed::Written(length) => length,
-        Analysed::Refused { number: _, place } => place,
-    }
-}
-
-pub fn reciprocal_number(reciprocal: Reciprocal) -> u8
-    ensures { result ≡ reciprocal_number reciprocal }
-{
-    match reciprocal {
-        Reciprocal::Residue(_) => 0,
-        Reciprocal::Refused { number, place: _ } => number,
-    }
-}
-
-// The residue, or the place of the refusal.
-pub fn reciprocal_value(reciprocal: Reciprocal) -> u64
-    ensures { result ≡ reciprocal_value reciprocal }
-{
-    match reciprocal {
-        Reciprocal::Residue(residue) => residue as u64,
-        Reciprocal::Refused { number: _, place } => place,
+    match answer {
+        Ok(value) => value,
+        Err(refusal) => refusal.place(),
     }
 }

@@ -2,19 +2,16 @@
 // would not change the answer (verdict_of_prefix).
 #![tactic(auto)]
 
-use answers::{verdict_number, verdict_place};
-use forms::Verdict;
-use report::{print_line_end, print_refusal, print_text, read_input};
+use forms::Fault;
+use report::{print_refusal, read_input};
 use std::io;
 use verdict::check::check;
 
-fn print_verdict(rt: &impl Print, verdict: Verdict) -> io::Result<()> {
-    let number = verdict_number(verdict);
-    if number == 0 {
-        print_text(rt, b"accepted")?;
-        return print_line_end(rt);
+fn print_verdict(rt: &impl Print, verdict: Result<u64, Fault>) -> io::Result<()> {
+    match verdict {
+        Ok(_) => println!(rt; "accepted"),
+        Err(fault) => print_refusal(rt, fault),
     }
-    print_refusal(rt, number, verdict_place(verdict))
 }
 
 fn main(rt: HostRuntime) -> io::Result<()> {

@@ -55,9 +55,16 @@ reason_of number =
 abbrev pub refusal_of : ℕ → ℕ → Refusal
 refusal_of number place = record { reason = reason_of number; place = place }
 
+-- the refusals of the analysis and of the reciprocal
+abbrev pub refusal_number : Refusal → ℕ
+refusal_number refusal = reason_number refusal.reason
+
+abbrev pub refusal_place : Refusal → ℕ
+refusal_place refusal = refusal.place
+
 -- the question that a refusal answers
 abbrev pub refused_by : Refusal → Asked
-refused_by refusal = refuse (reason_number refusal.reason) refusal.place
+refused_by refusal = refuse (refusal_number refusal) (refusal_place refusal)
 
 -- what is refused of n and p alone, as a fault of the header that holds them
 abbrev pub form_fault : Refusal → Fault
@@ -72,28 +79,31 @@ abbrev pub fault_place : Fault → ℕ
 fault_place (Form reason offset) = offset
 fault_place (Rule rule) = rule
 
+-- the number and the place of any answer: 0 with the value, or those of what refuses
+abbrev pub answer_number : {E : Type 0} → (E → ℕ) → Result ℕ E → ℕ
+answer_number number (Ok value) = 0
+answer_number number (Err refusal) = number refusal
+
+abbrev pub answer_place : {E : Type 0} → (E → ℕ) → Result ℕ E → ℕ
+answer_place place (Ok value) = value
+answer_place place (Err refusal) = place refusal
+
 abbrev pub verdict_number : Result ℕ Fault → ℕ
-verdict_number (Ok length) = 0
-verdict_number (Err fault) = fault_number fault
+verdict_number = answer_number fault_number
 
 abbrev pub verdict_place : Result ℕ Fault → ℕ
-verdict_place (Ok length) = length
-verdict_place (Err fault) = fault_place fault
+verdict_place = answer_place fault_place
 
 -- the analysis's answer
 abbrev pub analysed_number : Result ℕ Refusal → ℕ
-analysed_number (Ok length) = 0
-analysed_number (Err refusal) = reason_number refusal.reason
+analysed_number = answer_number refusal_number
 
 abbrev pub analysed_place : Result ℕ Refusal → ℕ
-analysed_place (Ok length) = length
-analysed_place (Err refusal) = refusal.place
+analysed_place = answer_place refusal_place
 
 -- the reciprocal's answer: its value is the residue, or the place of the refusal
 abbrev pub reciprocal_number : Result ℕ Refusal → ℕ
-reciprocal_number (Ok residue) = 0
-reciprocal_number (Err refusal) = reason_number refusal.reason
+reciprocal_number = answer_number refusal_number
 
 abbrev pub reciprocal_value : Result ℕ Refusal → ℕ
-reciprocal_value (Ok residue) = residue
-reciprocal_value (Err refusal) = refusal.place
+reciprocal_value = answer_place refusal_place

@@ -3,7 +3,7 @@
 #![tactic(auto)]
 
 ghost use Rattle.std.specs.Prelude.{◌≡◌};
-ghost use Rattle.forms.specs.Answers.{reason_number, fault_number, fault_place, form_fault};
+ghost use Rattle.forms.specs.Answers.{reason_number, form_fault};
 
 // A matrix has at most this many rows; the definitions' `order_limit` is the same number.
 pub const ORDER: usize = 12;
@@ -52,26 +52,6 @@ impl Reason {
             Reason::WrongLength => 8,
             Reason::ByteTooLarge => 9,
             Reason::BytesAfter => 10,
-        }
-    }
-}
-
-impl Fault {
-    pub fn number(self) -> u8
-        ensures { result ≡ fault_number self }
-    {
-        match self {
-            Fault::Form { reason, offset: _ } => reason.number(),
-            Fault::Rule(_) => 11,
-        }
-    }
-
-    pub fn place(self) -> u64
-        ensures { result ≡ fault_place self }
-    {
-        match self {
-            Fault::Form { reason: _, offset } => offset,
-            Fault::Rule(rule) => u64::from(rule),
         }
     }
 }
