@@ -19,28 +19,14 @@ pub fn row<'a>(s: &'a [u8], i: usize, width: usize) -> &'a [u8]
 pub fn degree_of(f: &[u8]) -> usize
     ensures { result ≡ degree (length f.now - 1) (at f.now) }
 {
-    let mut count = f.len();
-    while 1 < count {
-        if f[count - 1] != 0 {
-            return count - 1;
-        }
-        count = count - 1;
-    }
-    0
+    f.iter().rposition(|c| *c != 0).unwrap_or(0)
 }
 
 // The exponent of X in the polynomial with these coefficients.
 fn exponent_of(f: &[u8]) -> usize
     ensures { result ≡ exponent (length f.now) (at f.now) }
 {
-    let mut k = 0;
-    while k < f.len() {
-        if f[k] != 0 {
-            return k;
-        }
-        k = k + 1;
-    }
-    k
+    f.iter().position(|c| *c != 0).unwrap_or(f.len())
 }
 
 // The exponent of X in the product f1...fn.
@@ -49,10 +35,8 @@ pub fn lead_of(d: &[u8], n: usize) -> usize
     ensures { result ≡ lead n (diagonal n d.now) }
 {
     let mut sum = 0;
-    let mut i = 0;
-    while i < n {
-        sum = sum + exponent_of(row(d, i, n + 1));
-        i = i + 1;
+    for i in 0..n {
+        sum += exponent_of(row(d, i, n + 1));
     }
     sum
 }

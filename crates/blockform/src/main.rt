@@ -11,8 +11,8 @@ ghost use Rattle.forms.specs.Certificate.{certificate_length};
 
 use crate::listing::print_listing;
 use analysis::analysis;
-use answers::{analysed_number, analysed_place, fault_number, fault_place};
-use certificate::reading::{Read, byte, read_matrix};
+use certificate::reading::{byte, read_matrix};
+use certificate::records::Record;
 use finding::payload;
 use forms::ORDER;
 use report::{print_refusal, read_input};
@@ -21,38 +21,36 @@ use std::io;
 // The certificate of a matrix of the largest order.
 const ROOM: usize = 4 * ORDER * ORDER * ORDER + 5 * ORDER * ORDER + ORDER + 42;
 
-// The records of D and of F.
-const DF: usize = 2;
-
-const FB: usize = 7;
-
 // The certificate stands at the front of the room.
 fn print_certificate(rt: &impl Print, p: u8, n: u8, room: &[u8]) -> io::Result<()>
     requires { (n ≤ order_limit) × (length room.now ≡ certificate_length order_limit) }
 {
-    print_listing(rt, p, n, payload(room, n, DF), payload(room, n, FB))
+    print_listing(
+        rt,
+        p,
+        n,
+        payload(room, n, Record::DF),
+        payload(room, n, Record::FB),
+    )
 }
 
 fn print_forms(rt: &impl Print, p: u8, n: u8, matrix: &[u8]) -> io::Result<()>
     requires { n ≤ order_limit }
 {
     let mut room = [0u8; ROOM];
-    let analysed = analysis(p as u64, n as u64, matrix, &mut room);
-    let number = analysed_number(analysed);
-    if number != 0 {
-        return print_refusal(rt, number, analysed_place(analysed));
+    match analysis(u64::from(p), u64::from(n), matrix, &mut room) {
+        Ok(_) => print_certificate(rt, p, n, &room),
+        Err(refusal) => print_refusal(rt, refusal),
     }
-    print_certificate(rt, p, n, &room)
 }
 
 fn print_answer(rt: &impl Print, input: &[u8]) -> io::Result<()> {
-    let read = read_matrix(input);
-    match read {
-        Read::Good(_) => {
+    match read_matrix(input) {
+        Ok(_) => {
             let n = byte(input, 5);
-            print_forms(rt, byte(input, 4), n, payload(input, n, 1))
+            print_forms(rt, byte(input, 4), n, payload(input, n, Record::MA))
         }
-        Read::Bad(fault) => print_refusal(rt, fault_number(fault), fault_place(fault)),
+        Err(fault) => print_refusal(rt, fault),
     }
 }
 

@@ -1,28 +1,27 @@
 -- What the operations promise to C: the number and the place of an answer that keeps the operation's promise. Each determines both.
-use Rattle.std.specs.Prelude.{◌≡◌, List, ℕ}
+use Rattle.std.specs.Prelude.{◌≡◌, List, ℕ, Result}
 use Rattle.std.proofs.Common.{sym, ◌∙◌, ap}
 use Rattle.forms.specs.Answers.{analysed_number, analysed_place, verdict_number, verdict_place, reciprocal_number, reciprocal_value}
 use Rattle.forms.specs.Operations.{Analyses, Checks}
 use Rattle.forms.specs.Reciprocals.{Reciprocates}
 use Rattle.forms.proofs.Determined.{analysis_same_answer, check_determined, reciprocal_determined}
-use Rattle.forms.specs.declared.Analysed.{Analysed}
-use Rattle.forms.specs.declared.Verdict.{Verdict}
-use Rattle.forms.specs.declared.Reciprocal.{Reciprocal}
+use Rattle.forms.specs.declared.Fault.{Fault}
+use Rattle.forms.specs.declared.Refusal.{Refusal}
 
 pub record NumberedAnalysis (p n : ℕ) (A before after : List ℕ) (number place : ℕ) : Type 0 where
-  pub answer : Analysed
+  pub answer : Result ℕ Refusal
   pub kept : Analyses p n A before after answer
   pub number_is : number ≡ analysed_number answer
   pub place_is : place ≡ analysed_place answer
 
 pub record NumberedCheck (s : List ℕ) (number place : ℕ) : Type 0 where
-  pub answer : Verdict
+  pub answer : Result ℕ Fault
   pub kept : Checks s answer
   pub number_is : number ≡ verdict_number answer
   pub place_is : place ≡ verdict_place answer
 
 pub record NumberedReciprocal (p x number value : ℕ) : Type 0 where
-  pub answer : Reciprocal
+  pub answer : Result ℕ Refusal
   pub kept : Reciprocates p x answer
   pub number_is : number ≡ reciprocal_number answer
   pub value_is : value ≡ reciprocal_value answer

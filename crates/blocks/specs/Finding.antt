@@ -1,8 +1,8 @@
 -- What finding promises to C: how long the part is and where in the certificate it starts, 0 and 0 where it is empty.
-use Rattle.std.specs.Prelude.{◌≡◌, Bool, true, false, cond, not, List, [], ◌∷◌, ℕ, zero, suc, ◌+◌, ◌≤◌, ◌<◌, T, eqb, take, drop}
+use Rattle.std.specs.Prelude.{◌≡◌, Bool, true, false, cond, not, List, [], ◌∷◌, ℕ, zero, suc, ◌+◌, ◌≤◌, ◌<◌, T, eqb, take, drop, Some, None}
 use Rattle.std.proofs.Math.Path.{refl, sym, ap}
 use Rattle.std.proofs.Common.{◌∙◌, ap₂, subst, arith, eqb→eq, T_not}
-use Rattle.std.proofs.Math.Decide.{ℕ_discrete, dec_lt}
+use Rattle.std.proofs.Math.Decide.{ℕ_discrete}
 use Rattle.std.proofs.Math.Dec.{eqb_refl}
 use Rattle.std.proofs.Math.ListN.{length}
 use Rattle.forms.specs.Numbers.{at}
@@ -12,6 +12,8 @@ use Rattle.forms.specs.Reading.{reading}
 use Rattle.forms.specs.Operations.{is_mark, part_marked, part_found, Finds}
 use Rattle.forms.specs.Tests.{cond_fails}
 use Rattle.forms.proofs.Findings.{marks_differ, nothing_found}
+use Rattle.certificate.specs.Numbering.{number_of, number_small}
+use Rattle.certificate.specs.declared.records.Record.{Record}
 use Rattle.finding.specs.Found.{Marks, is_the_mark, found_not_empty}
 
 -- where the part starts that m marks, among the first k records; 0 where it marks none
@@ -80,17 +82,16 @@ module _ (s m found : List ℕ) (finds : Finds s m found) where
       go fine f = start_of_none s m 10 (λ k l t. let h = found_not_empty s m found finds f k l t in omega arith)
       go (refuse number place) f = refl
 
-  module _ (k : ℕ) (marks : Marks m k) (some : length found ≡ 0 → ⊥) where
-    pub found_record : k < 10
-    found_record = elim (dec_lt k 10) [
-      | yes l ↦ l
-      | no l ↦ absurd (some (ap length (finds.answered ∙ nothing_found s m (marks.none (omega arith)))))
-    ]
+  pub found_unmarked : Marks m None → PlacedFinding s m 0 0
+  found_unmarked h = found_nothing (ap length (finds.answered ∙ nothing_found s m h))
 
-    pub found_something : {start many : ℕ} → start ≡ offset (at s 5) k + 4 → many ≡ length found → PlacedFinding s m start many
-    unfolding part_found start_found
-    found_something e f = record { start_is = e ∙ go (reading s) refl; many_is = f ∙ ap length finds.answered }
-      where
-        go : (q : Asked) → reading s ≡ q → offset (at s 5) k + 4 ≡ start_found q s m
-        go fine r = sym (ap (start_marked 10 s) (is_the_mark m k found_record (marks.one found_record)) ∙ start_of_mark s k found_record 10 found_record (omega arith))
-        go (refuse number place) r = absurd (some (ap length (finds.answered ∙ ap (λ (q : Asked). part_found q s m) r)))
+  pub found_something : (kind : Record) → Marks m (Some kind) → (length found ≡ 0 → ⊥) → {start many : ℕ} → start ≡ offset (at s 5) (number_of kind) + 4 → many ≡ length found → PlacedFinding s m start many
+  unfolding part_found start_found
+  found_something kind marks some e f = record { start_is = e ∙ go (reading s) refl; many_is = f ∙ ap length finds.answered }
+    where
+      abbrev k : ℕ
+      k = number_of kind
+
+      go : (q : Asked) → reading s ≡ q → offset (at s 5) k + 4 ≡ start_found q s m
+      go fine r = sym (ap (start_marked 10 s) (is_the_mark m k (number_small kind) marks) ∙ start_of_mark s k (number_small kind) 10 (number_small kind) (omega arith))
+      go (refuse number place) r = absurd (some (ap length (finds.answered ∙ ap (λ (q : Asked). part_found q s m) r)))

@@ -4,17 +4,17 @@
 ghost use Rattle.forms.specs.Operations.{Analyses, Checks, Finds};
 ghost use Rattle.forms.specs.Reciprocals.{Reciprocates};
 
-use forms::{Analysed, Reciprocal, Verdict};
+use forms::{Fault, Refusal};
 
 // Writes the certificate of a matrix modulo p, of order n, into `out`.
-pub fn analysis(p: u64, n: u64, matrix: &[u8], out: &mut [u8]) -> Analysed
+pub fn analysis(p: u64, n: u64, matrix: &[u8], out: &mut [u8]) -> Result<u64, Refusal>
     ensures { Analyses p n matrix.now out.old out.new result }
 {
     analysis::analysis(p, n, matrix, out)
 }
 
 // Reads a certificate from anyone, and asks the nine rules.
-pub fn check(certificate: &[u8]) -> Verdict
+pub fn check(certificate: &[u8]) -> Result<u64, Fault>
     ensures { Checks certificate.now result }
 {
     verdict::check::check(certificate)
@@ -28,7 +28,7 @@ pub fn find<'a, 'b>(certificate: &'a [u8], mark: &'b [u8]) -> &'a [u8]
 }
 
 // The reciprocal of x modulo p, and 0 for 0.
-pub fn reciprocal(p: u64, x: u64) -> Reciprocal
+pub fn reciprocal(p: u64, x: u64) -> Result<u8, Refusal>
     ensures { Reciprocates p x result }
 {
     residues::residue::reciprocal(p, x)
