@@ -1,5 +1,5 @@
--- The diagonal's polynomials among their bytes, and their degrees, as the loop from the top finds them.
-use Rattle.std.specs.Prelude.{◌≡◌, refl, ◌≢◌, List, ℕ, zero, suc, ◌+◌, ◌*◌, ◌≤◌, ◌<◌, T, eqb, length, take, drop, sum, Option, Some, None, MatchOption, unwrap_or}
+-- The diagonal's polynomials among their bytes, their degrees as the last coefficients that are not zero, and the sum of these.
+use Rattle.std.specs.Prelude.{◌≡◌, refl, ◌≢◌, List, ℕ, zero, suc, ◌+◌, ◌*◌, ◌^◌, ◌≤◌, ◌<◌, T, eqb, length, take, drop, sum, Option, Some, None, MatchOption, unwrap_or}
 use Rattle.std.proofs.Common.{sym, ◌∙◌, ap, arith, eqb→eq, length-take, length-drop, get_or-take, get_or-drop}
 use Rattle.std.proofs.Math.Decide.{dec_le, ℕ_discrete}
 use Rattle.std.proofs.Math.ListN.{get_or-eq_default}
@@ -73,12 +73,18 @@ pub monic_at : (n : ℕ) (d : List ℕ) (i m : ℕ) {s : List ℕ} → Coefficie
 monic_at n d i m h e = ap (λ (x : ℕ). eqb x 1) (h.coefficient m ∙ ap (diagonal n d i) e)
 
 -- the sum of the first n numbers of a list
-pub sum_is_total : (s : List ℕ) (n : ℕ) → n ≤ length s → sum (take n s) ≡ total n (at s)
+sum_is_total : (s : List ℕ) (n : ℕ) → n ≤ length s → sum (take n s) ≡ total n (at s)
 unfolding total
 sum_is_total s zero l = refl
 sum_is_total s (suc n) l = rw (take-suc s n 0) (sum_by_push (λ (x : ℕ). x) (take n s) (at s n) ∙ ap (λ (x : ℕ). x + at s n) (sum_is_total s n (omega arith)))
 
-pub total_bounded : (m n : ℕ) (f : ℕ → ℕ) → ((i : ℕ) → i < n → f i ≤ m) → total n f ≤ n * m
+pub total_is : (s : List ℕ) (n : ℕ) {x : ℕ} → n ≤ length s → x ≡ sum (take n s) → x ≡ total n (at s)
+total_is s n l e = e ∙ sum_is_total s n l
+
+total_bounded : (m n : ℕ) (f : ℕ → ℕ) → ((i : ℕ) → i < n → f i ≤ m) → total n f ≤ n * m
 unfolding total
 total_bounded m zero f h = omega arith
 total_bounded m (suc n) f h = let r = total_bounded m n f (λ i l. h i (omega arith)) in let g = h n (omega arith) in omega arith
+
+pub sum_fits : (s : List ℕ) (n : ℕ) → n ≤ order_limit → n ≤ length s → ((i : ℕ) → i < n → at s i ≤ n) → sum (take n s) < 2 ^ 64
+sum_fits s n l g h = let e = sum_is_total s n g in let b = total_bounded order_limit n (at s) (λ i m. (let k = h i m in omega arith)) in omega arith

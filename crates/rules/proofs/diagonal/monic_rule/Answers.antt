@@ -4,7 +4,7 @@ use Rattle.forms.specs.Matrices.{diagonal}
 use Rattle.forms.specs.Bounds.{degree_limited}
 use Rattle.matrices.specs.Filling.{every_start, every_turn}
 use Rattle.rules.specs.Diagonal.{monic_at}
-use Rattle.products.specs.Searches.{all_passed, one_failed}
+use Rattle.products.specs.Searches.{one_failed}
 use Rattle.rules.proofs.diagonal.monic_rule.Goals as goal
 
 pub loop-i-init : goal.loop-i-init
@@ -22,6 +22,3 @@ pub loop-i-preserved : goal.loop-i-preserved
 loop-i-preserved c =
     let a = c.args in let l = c.loop-i in
     every_turn _ _ l.invariant (sym (monic_at a.n a.form.now l.i _ c.polynomial.ensures (c.requires.1 l.i c.loop-i-test.true)) ∙ eq-eqb _ 1 c.if-polynomial-degrees-ne1.false)
-
-pub returns : goal.returns
-returns c = let l = c.loop-i in all_passed _ _ 1 l.i l.invariant l.auto.i-end c.loop-i-test.false
