@@ -1,11 +1,15 @@
 -- The rows of a matrix by the blocks that the entries just below the diagonal show: which rows begin one, where each ends, and the order
 -- of D, in which the rows that begin none come first.
-use Rattle.std.specs.Prelude.{◌≡◌, Bool, List, ℕ, zero, suc, ◌+◌, ◌-◌, ◌≤◌, ◌<◌, eqb, length, set}
+use Rattle.std.specs.Prelude.{◌≡◌, Bool, List, [], ◌∷◌, ◌++◌, ℕ, zero, suc, ◌+◌, ◌-◌, ◌≤◌, ◌<◌, eqb, not, length, set}
+use Rattle.std.specs.Int.{from_bool}
+use Rattle.std.specs.List.{count_by, filter, range_with_len}
 use Rattle.std.proofs.Math.Path.{refl, ap}
-use Rattle.std.proofs.Common.{sym, ◌∙◌, subst, add-zero, add-suc, add-one, get_or-set_same, get_or-set_other}
+use Rattle.std.proofs.Common.{sym, ◌∙◌, ap₂, map-id, subst, add-zero, add-suc, add-one, get_or-set_same, get_or-set_other}
 use Rattle.std.proofs.Math.Bool.{true, false, cond}
 use Rattle.std.proofs.Math.Decide.{ℕ_discrete, dec_lt}
 use native.Mathlib.Omega.{arith}
+use Rattle.std.proofs.lemmas.List.Sums.{length-filter, sum_by_push}
+use Rattle.std.proofs.lemmas.List.FromFn.{map-range_with_len_more}
 use Rattle.forms.specs.Numbers.{at, total, order_limit}
 use Rattle.forms.specs.Tests.{total_suc}
 use Rattle.matrices.specs.Matrices.{cell, zero_row, zero_row_at}
@@ -77,13 +81,22 @@ pub record Ordered (m : List (List ℕ)) (n k : ℕ) (r : List ℕ) : Type 0 whe
   pub placed : (i : ℕ) → i < k → at r (place m n i) ≡ i
 
 module _ (m : List (List ℕ)) where
-  pub other_head : (i : ℕ) → begins m i ≡ true → other m i ≡ 0
+  other_head : (i : ℕ) → begins m i ≡ true → other m i ≡ 0
   unfolding other
   other_head i e = ap (λ (b : Bool). cond b 0 1) e
 
-  pub other_row : (i : ℕ) → begins m i ≡ false → other m i ≡ 1
+  other_row : (i : ℕ) → begins m i ≡ false → other m i ≡ 1
   unfolding other
   other_row i e = ap (λ (b : Bool). cond b 0 1) e
+
+  -- as the code adds it
+  pub other_is : (i : ℕ) {b : Bool} {x : ℕ} → b ≡ begins m i → x ≡ from_bool (not b) → x ≡ other m i
+  unfolding other
+  other_is i {b} e g = g ∙ as_number b ∙ ap (λ (b : Bool). cond b 0 1) e
+    where
+      as_number : (b : Bool) → from_bool (not b) ≡ cond b 0 1
+      as_number true = refl
+      as_number false = refl
 
   pub other_most : (i : ℕ) → other m i ≤ 1
   unfolding other
@@ -96,6 +109,22 @@ module _ (m : List (List ℕ)) where
   pub no_others : others m 0 ≡ 0
   unfolding total
   no_others = refl
+
+  -- as the code counts them
+  pub others_counted : (k : ℕ) → length (filter (λ i. not (begins m i)) (range_with_len 0 k)) ≡ others m k
+  unfolding total other
+  others_counted k = length-filter _ (range_with_len 0 k) ∙ counted k
+    where
+      as_number : (b : Bool) → ◌≡◌ {A = ℕ} (cond (not b) 1 0) (cond b 0 1)
+      as_number true = refl
+      as_number false = refl
+
+      one_more : (k : ℕ) → range_with_len 0 (suc k) ≡ range_with_len 0 k ++ (k ∷ [])
+      one_more k = ap (range_with_len 0) (sym (add-one k)) ∙ simp map-id at (map-range_with_len_more (λ (x : ℕ). x) 0 k k (omega arith))
+
+      counted : (k : ℕ) → count_by (λ i. not (begins m i)) (range_with_len 0 k) ≡ others m k
+      counted zero = refl
+      counted (suc k) = rw (one_more k) (sum_by_push (λ (i : ℕ). cond (not (begins m i)) 1 0) (range_with_len 0 k) k ∙ ap₂ ◌+◌ (counted k) (as_number (begins m k)))
 
   others_after : (k d : ℕ) → (others m k ≤ others m (k + d)) × (others m (k + d) ≤ others m k + d)
   others_after k zero = rw (add-zero, add-zero) (omega arith, omega arith)

@@ -1,6 +1,6 @@
 -- Rule 2 in code: the polynomials that are taken from the payload of D are its entries, and the test of divisibility is the rule's.
-use Rattle.std.specs.Prelude.{◌≡◌, ◌↔◌, Bool, List, ℕ, suc, ◌*◌, ◌<◌, T}
-use Rattle.std.proofs.Common.{sym, ◌∙◌, arith}
+use Rattle.std.specs.Prelude.{◌≡◌, ◌↔◌, Bool, List, ℕ, suc, ◌<◌, T}
+use Rattle.std.proofs.Common.{sym, ◌∙◌, ap, arith, zero-add}
 use Rattle.std.proofs.Math.Decide.{dec_lt, dec_le}
 use Rattle.algebra.specs.Divides.{Divides}
 use Rattle.algebra.specs.Polynomial.{polynomials}
@@ -14,18 +14,18 @@ use Rattle.polynomials.specs.declared.Polynomial.{Polynomial}
 use Rattle.polynomials.specs.Canonical.{polynomial, Canonical}
 use Rattle.polynomials.specs.Taking.{TakenFrom, taken_canonical}
 use Rattle.polynomials.specs.Rule.{answer_is_test}
-use Rattle.rules.specs.Diagonal.{MonicPayload, diagonal_from}
+use Rattle.rules.specs.Diagonal.{MonicPayload, CoefficientsOf, coefficient_small}
 
--- x is taken from the payload d as f_i
-module _ (p n : ℕ) (d : List ℕ) (h : MonicPayload p n d) (i start count : ℕ) (x : Polynomial) (e : start ≡ i * suc n) (c : count ≡ suc n) (taken : TakenFrom d start count x) where
+-- x is taken from the n + 1 coefficients s of f_i
+module _ (p n : ℕ) (d : List ℕ) (h : MonicPayload p n d) (i count : ℕ) (s : List ℕ) (x : Polynomial) (of : CoefficientsOf n d i s) (c : count ≡ suc n) (taken : TakenFrom s 0 count x) where
   pub taken_coefficients : (k : ℕ) → at x.coefficients k ≡ diagonal n d i k
   taken_coefficients k = elim (dec_le k n) [
-    | yes l ↦ taken.copied.inside k (omega arith) ∙ sym (diagonal_from n d i start k e l)
+    | yes l ↦ taken.copied.inside k (omega arith) ∙ ap (at s) (zero-add k) ∙ of.coefficient k
     | no l ↦ taken.copied.outside k (omega arith) ∙ sym (diagonal_short n d i k (omega arith))
   ]
 
   pub taken_residues : Canonical p x
-  taken_residues = taken_canonical p taken (prime_positive p h.prime_p) (λ k l. h.small _)
+  taken_residues = taken_canonical p taken (prime_positive p h.prime_p) (λ k l. rw zero-add (coefficient_small of h.small k (omega arith)))
 
   pub taken_some : i < n → 0 < x.len
   taken_some l = elim (dec_lt 0 x.len) [

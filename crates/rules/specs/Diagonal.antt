@@ -1,11 +1,15 @@
--- The diagonal's polynomials among their bytes, and their degrees, as the loop from the top finds them.
-use Rattle.std.specs.Prelude.{◌≡◌, refl, ◌≢◌, List, ℕ, zero, suc, ◌+◌, ◌*◌, ◌-◌, ◌≤◌, ◌<◌, T, eqb, length}
-use Rattle.std.proofs.Common.{sym, ◌∙◌, ap, arith, eqb→eq}
-use Rattle.forms.specs.Numbers.{at, prime, order_limit}
+-- The diagonal's polynomials among their bytes, their degrees as the last coefficients that are not zero, and the sum of these.
+use Rattle.std.specs.Prelude.{◌≡◌, refl, ◌≢◌, List, ℕ, zero, suc, ◌+◌, ◌*◌, ◌^◌, ◌≤◌, ◌<◌, T, eqb, length, take, drop, sum, Option, Some, None, MatchOption, unwrap_or}
+use Rattle.std.proofs.Common.{sym, ◌∙◌, ap, arith, eqb→eq, length-take, length-drop, get_or-take, get_or-drop}
+use Rattle.std.proofs.Math.Decide.{dec_le, ℕ_discrete}
+use Rattle.std.proofs.Math.ListN.{get_or-eq_default}
+use Rattle.std.proofs.Math.Seq.{take-suc}
+use Rattle.std.proofs.lemmas.List.Sums.{sum_by_push}
+use Rattle.forms.specs.Numbers.{at, total, prime, order_limit}
 use Rattle.forms.specs.Polynomials.{Coefficients, degree, monic}
 use Rattle.forms.specs.Matrices.{diagonal}
 use Rattle.forms.specs.Tests.{cond_holds, cond_fails, equal_holds}
-use Rattle.forms.specs.Bounds.{diagonal_at, degree_limited}
+use Rattle.forms.specs.Bounds.{diagonal_at, diagonal_short}
 
 -- the payload of D
 pub record DiagonalPayload (n : ℕ) (d : List ℕ) : Type 0 where
@@ -19,31 +23,68 @@ pub record MonicPayload (p n : ℕ) (d : List ℕ) : Type 0 where
   pub small : (k : ℕ) → at d k < p
   pub one : (i : ℕ) → i < n → diagonal n d i (degree n (diagonal n d i)) ≡ 1
 
+-- s is the n + 1 coefficients of f_i
+pub record CoefficientsOf (n : ℕ) (d : List ℕ) (i : ℕ) (s : List ℕ) : Type 0 where
+  pub long : length s ≡ suc n
+  pub coefficient : (k : ℕ) → at s k ≡ diagonal n d i k
+
 -- the degrees of f_1 .. f_n, in code counted from 0
 abbrev pub Degrees : ℕ → List ℕ → List ℕ → Type 0
 Degrees n d s = (i : ℕ) → i < n → at s i ≡ degree n (diagonal n d i)
 
--- one coefficient from the top
-pub degree_zero : (f : Coefficients) → degree 0 f ≡ 0
+-- the degree is the last index with a coefficient that is not zero
+degree_at : (n : ℕ) (f : Coefficients) (i : ℕ) → i ≤ n → f i ≢ 0 → ((k : ℕ) → i < k → k ≤ n → f k ≡ 0) → degree n f ≡ i
 unfolding degree
-degree_zero f = refl
+degree_at zero f i l o h = omega arith
+degree_at (suc n) f i l o h = elim (ℕ_discrete i (suc n)) [
+  | yes e ↦ cond_fails (eqb (f (suc n)) 0) _ _ (λ t. o (ap f e ∙ eqb→eq (f (suc n)) 0 t)) ∙ sym e
+  | no q ↦ cond_holds (eqb (f (suc n)) 0) _ _ (equal_holds (f (suc n)) 0 (h (suc n) (omega arith) (omega arith))) ∙ degree_at n f i (omega arith) o (λ k a b. h k a (omega arith))
+]
 
-pub degree_less : (k : ℕ) (f : Coefficients) → 0 < k → f k ≡ 0 → degree k f ≡ degree (k - 1) f
+degree_zeros : (n : ℕ) (f : Coefficients) → ((k : ℕ) → k ≤ n → f k ≡ 0) → degree n f ≡ 0
 unfolding degree
-degree_less zero f l e = absurd (omega arith)
-degree_less (suc k) f l e = cond_holds (eqb (f (suc k)) 0) (degree k f) (suc k) (equal_holds (f (suc k)) 0 e) ∙ ap (λ (x : ℕ). degree x f) (less k)
-  where
-    less : (k : ℕ) → k ≡ suc k - 1
-    less k = omega arith
+degree_zeros zero f h = refl
+degree_zeros (suc n) f h = cond_holds (eqb (f (suc n)) 0) _ _ (equal_holds (f (suc n)) 0 (h (suc n) (omega arith))) ∙ degree_zeros n f (λ k l. h k (omega arith))
 
-pub degree_here : (k : ℕ) (f : Coefficients) → 0 < k → f k ≢ 0 → degree k f ≡ k
-unfolding degree
-degree_here zero f l o = absurd (omega arith)
-degree_here (suc k) f l o = cond_fails (eqb (f (suc k)) 0) (degree k f) (suc k) (λ t. o (eqb→eq (f (suc k)) 0 t))
+-- r is the last index of s with a number that is not zero
+abbrev pub LastNonzero : List ℕ → Option ℕ → Type 0
+LastNonzero s r = MatchOption r ((k : ℕ) → k < length s → at s k ≡ 0) (λ i. (i < length s) × (at s i ≢ 0) × ((k : ℕ) → i < k → k < length s → at s k ≡ 0))
 
--- coefficient k of f_i, which starts at start
-pub diagonal_from : (n : ℕ) (d : List ℕ) (i start k : ℕ) → start ≡ i * suc n → k ≤ n → diagonal n d i k ≡ at d (start + k)
-diagonal_from n d i start k e l = diagonal_at n d i k (omega arith) ∙ ap (λ (x : ℕ). at d (x + k)) (sym e)
+pub degree_last : (n : ℕ) (d : List ℕ) (i : ℕ) {s : List ℕ} (r : Option ℕ) → CoefficientsOf n d i s → LastNonzero s r → unwrap_or r 0 ≡ degree n (diagonal n d i)
+degree_last n d i None of h = sym (degree_zeros n _ (λ k l. sym (of.coefficient k) ∙ h k (omega (arith, of.long))))
+degree_last n d i (Some m) of h = sym (degree_at n _ m (omega (arith, of.long, h.0)) (λ z. h.1 (of.coefficient m ∙ z)) (λ k a b. sym (of.coefficient k) ∙ h.2 k a (omega (arith, of.long))))
 
-pub monic_at : (n : ℕ) (d : List ℕ) (i start m : ℕ) → start ≡ i * suc n → m ≡ degree n (diagonal n d i) → eqb (at d (start + m)) 1 ≡ monic n (diagonal n d i)
-monic_at n d i start m e f = ap (λ (x : ℕ). eqb x 1) (sym (diagonal_from n d i start m e (let l = degree_limited n (diagonal n d i) in omega arith)) ∙ ap (diagonal n d i) f)
+-- the n + 1 bytes from where f_i starts
+pub coefficients_from : (n : ℕ) (d : List ℕ) (i start count : ℕ) → start ≡ i * suc n → count ≡ suc n → start + suc n ≤ length d → CoefficientsOf n d i (take count (drop start d))
+coefficients_from n d i start count e c l =
+    let long : length (take count (drop start d)) ≡ suc n = simp (length-take, length-drop, c) (omega arith) in
+    record {
+      long = long;
+      coefficient = λ k. elim (dec_le k n) [
+        | yes h ↦ get_or-take count (drop start d) k 0 (omega arith) ∙ get_or-drop start d k 0 ∙ ap (λ (x : ℕ). at d (x + k)) e ∙ sym (diagonal_at n d i k (omega arith))
+        | no h ↦ get_or-eq_default _ 0 {n = k} (omega arith) ∙ sym (diagonal_short n d i k (omega arith))
+      ];
+    }
+
+pub coefficient_small : {p n : ℕ} {d : List ℕ} {i : ℕ} {s : List ℕ} → CoefficientsOf n d i s → ((k : ℕ) → at d k < p) → (k : ℕ) → k ≤ n → at s k < p
+coefficient_small {p} {n} {d} {i} h small k l = rw (h.coefficient k, diagonal_at n d i k (omega arith)) (small _)
+
+pub monic_at : (n : ℕ) (d : List ℕ) (i m : ℕ) {s : List ℕ} → CoefficientsOf n d i s → m ≡ degree n (diagonal n d i) → eqb (at s m) 1 ≡ monic n (diagonal n d i)
+monic_at n d i m h e = ap (λ (x : ℕ). eqb x 1) (h.coefficient m ∙ ap (diagonal n d i) e)
+
+-- the sum of the first n numbers of a list
+sum_is_total : (s : List ℕ) (n : ℕ) → n ≤ length s → sum (take n s) ≡ total n (at s)
+unfolding total
+sum_is_total s zero l = refl
+sum_is_total s (suc n) l = rw (take-suc s n 0) (sum_by_push (λ (x : ℕ). x) (take n s) (at s n) ∙ ap (λ (x : ℕ). x + at s n) (sum_is_total s n (omega arith)))
+
+pub total_is : (s : List ℕ) (n : ℕ) {x : ℕ} → n ≤ length s → x ≡ sum (take n s) → x ≡ total n (at s)
+total_is s n l e = e ∙ sum_is_total s n l
+
+total_bounded : (m n : ℕ) (f : ℕ → ℕ) → ((i : ℕ) → i < n → f i ≤ m) → total n f ≤ n * m
+unfolding total
+total_bounded m zero f h = omega arith
+total_bounded m (suc n) f h = let r = total_bounded m n f (λ i l. h i (omega arith)) in let g = h n (omega arith) in omega arith
+
+pub sum_fits : (s : List ℕ) (n : ℕ) → n ≤ order_limit → n ≤ length s → ((i : ℕ) → i < n → at s i ≤ n) → sum (take n s) < 2 ^ 64
+sum_fits s n l g h = let e = sum_is_total s n g in let b = total_bounded order_limit n (at s) (λ i m. (let k = h i m in omega arith)) in omega arith

@@ -1,6 +1,7 @@
 -- Rule 7 in code: the entry of F that D asks is looked for block by block, and compared with that of FB.
-use Rattle.std.specs.Prelude.{◌≡◌, ◌≢◌, Bool, List, ℕ, suc, ◌+◌, ◌*◌, ◌-◌, ◌%◌, ◌≤◌, ◌<◌, eqb, length}
-use Rattle.std.proofs.Common.{sym, ◌∙◌, ap, ap₂, mod-eq_of_lt, arith, eqb→eq}
+use Rattle.std.specs.Prelude.{◌≡◌, refl, ◌≢◌, Bool, true, false, cond, List, ℕ, suc, ◌+◌, ◌*◌, ◌-◌, ◌%◌, ◌≤◌, ◌<◌, eqb, length}
+use Rattle.std.specs.Int.{from_bool}
+use Rattle.std.proofs.Common.{sym, ◌∙◌, ap, ap₂, add-one, mod-eq_of_lt, arith, eqb→eq}
 use Rattle.forms.specs.Numbers.{at}
 use Rattle.forms.specs.Polynomials.{Coefficients, degree}
 use Rattle.forms.specs.Matrices.{matrix, diagonal, unit}
@@ -22,13 +23,13 @@ pub companion_last : (p m : ℕ) (f : Coefficients) (i j x : ℕ) → j + 1 ≡ 
 unfolding companion
 companion_last p m f i j x e g = ap (λ (y : ℕ). (p - y) % p) (sym g) ∙ sym (cond_holds (eqb (suc j) m) _ _ (equal_holds (suc j) m (omega arith)))
 
-pub companion_below : (p m : ℕ) (f : Coefficients) (i j : ℕ) → j + 1 ≢ m → i ≡ j + 1 → 1 ≡ companion p m f i j
+pub companion_before : (p m : ℕ) (f : Coefficients) (i j x : ℕ) → j + 1 ≢ m → x ≡ from_bool (eqb i (j + 1)) → x ≡ companion p m f i j
 unfolding companion unit
-companion_below p m f i j o e = sym (cond_fails (eqb (suc j) m) _ _ (λ t. o (let w = eqb→eq (suc j) m t in omega arith)) ∙ cond_holds (eqb i (suc j)) 1 0 (equal_holds i (suc j) (omega arith)))
-
-pub companion_zero : (p m : ℕ) (f : Coefficients) (i j : ℕ) → j + 1 ≢ m → i ≢ j + 1 → 0 ≡ companion p m f i j
-unfolding companion unit
-companion_zero p m f i j o e = sym (cond_fails (eqb (suc j) m) _ _ (λ t. o (let w = eqb→eq (suc j) m t in omega arith)) ∙ cond_fails (eqb i (suc j)) 1 0 (λ t. e (let w = eqb→eq i (suc j) t in omega arith)))
+companion_before p m f i j x o e = e ∙ as_number (eqb i (j + 1)) ∙ ap (λ (k : ℕ). unit i k) (add-one j) ∙ sym (cond_fails (eqb (suc j) m) _ _ (λ t. o (let w = eqb→eq (suc j) m t in omega arith)))
+  where
+    as_number : (b : Bool) → from_bool b ≡ cond b 1 0
+    as_number true = refl
+    as_number false = refl
 
 -- what is left of the entry (i, j) once b blocks are passed: the entry (row, column) of the blocks behind
 abbrev pub Behind : ℕ → ℕ → (ℕ → Coefficients) → ℕ → ℕ → ℕ → ℕ → ℕ → Type 0

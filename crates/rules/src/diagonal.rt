@@ -3,7 +3,7 @@ ghost use Rattle.std.specs.Prelude.{◌≡◌, ℕ, suc, ◌+◌, ◌*◌, ◌-�
 ghost use Rattle.forms.specs.Numbers.{at, total, every, order_limit};
 ghost use Rattle.forms.specs.Polynomials.{degree, monic, divides};
 ghost use Rattle.forms.specs.Matrices.{diagonal};
-ghost use Rattle.rules.specs.Diagonal.{DiagonalPayload, MonicPayload, Degrees};
+ghost use Rattle.rules.specs.Diagonal.{DiagonalPayload, MonicPayload, CoefficientsOf, Degrees};
 ghost use Rattle.products.specs.Searches.{failing};
 
 use forms::ORDER;
@@ -17,20 +17,22 @@ pub fn polynomial_start(i: usize, n: usize) -> usize
     i * (n + 1)
 }
 
+// The n + 1 coefficients of f_i.
+pub fn polynomial(form: &[u8], i: usize, n: usize) -> &[u8]
+    requires { DiagonalPayload n form.now × (i < n) }
+    ensures { CoefficientsOf n form.now i result.now }
+{
+    let start = polynomial_start(i, n);
+    &form[start..start + n + 1]
+}
+
 // The degree of f_i.
 fn degree_of(form: &[u8], i: usize, n: usize) -> usize
     requires { DiagonalPayload n form.now × (i < n) }
     ensures { result ≡ degree n (diagonal n form.now i) }
 {
-    let start = polynomial_start(i, n);
-    let mut k = n;
-    while 0 < k {
-        if form[start + k] != 0 {
-            return k;
-        }
-        k = k - 1;
-    }
-    0
+    let f = polynomial(form, i, n);
+    f.iter().rposition(|c| *c != 0).unwrap_or(0)
 }
 
 // The degrees of f1 .. fn.
@@ -38,28 +40,24 @@ pub fn degrees_of(form: &[u8], n: usize) -> [usize; ORDER]
     requires { DiagonalPayload n form.now }
     ensures { Degrees n form.now result }
 {
-    let mut degrees = [0usize; ORDER];
-    let mut i = 0;
-    while i < n {
+    let mut degrees = [0; ORDER];
+    for i in 0..n {
         degrees[i] = degree_of(form, i, n);
-        i = i + 1;
     }
     degrees
 }
 
-// Rule 1: the coefficient at the degree is 1. Here and below 0 says that the rule holds.
-pub fn monic_rule(form: &[u8], degrees: [usize; ORDER], n: usize) -> u8
+// Rule 1: the coefficient at the degree is 1.
+pub fn monic_rule(form: &[u8], degrees: [usize; ORDER], n: usize) -> Result<(), u8>
     requires { DiagonalPayload n form.now × Degrees n form.now degrees }
     ensures { result ≡ failing (every n (λ i. monic n (diagonal n form.now i))) 1 }
 {
-    let mut i = 0;
-    while i < n {
-        if form[polynomial_start(i, n) + degrees[i]] != 1 {
-            return 1;
+    for i in 0..n {
+        if polynomial(form, i, n)[degrees[i]] != 1 {
+            return Err(1);
         }
-        i = i + 1;
     }
-    0
+    Ok(())
 }
 
 // f_i divides the next.
@@ -67,39 +65,29 @@ fn divides_next(form: &[u8], i: usize, n: usize, p: u8) -> bool
     requires { MonicPayload p n form.now × (suc i < n) }
     ensures { result ≡ divides p n (diagonal n form.now i) (diagonal n form.now (suc i)) }
 {
-    let f = from_coefficients(form, polynomial_start(i, n), n + 1);
-    let g = from_coefficients(form, polynomial_start(i + 1, n), n + 1);
+    let f = from_coefficients(polynomial(form, i, n), 0, n + 1);
+    let g = from_coefficients(polynomial(form, i + 1, n), 0, n + 1);
     polynomials::divides(f, g, p)
 }
 
 // Rule 2.
-pub fn chain_rule(form: &[u8], n: usize, p: u8) -> u8
+pub fn chain_rule(form: &[u8], n: usize, p: u8) -> Result<(), u8>
     requires { MonicPayload p n form.now × (1 ≤ n) }
     ensures { result ≡ failing (every (n - 1) (λ i. divides p n (diagonal n form.now i) (diagonal n form.now (suc i)))) 2 }
 {
-    let mut i = 0;
-    while i < n - 1 {
+    for i in 0..n - 1 {
         if !divides_next(form, i, n, p) {
-            return 2;
+            return Err(2);
         }
-        i = i + 1;
     }
-    0
+    Ok(())
 }
 
 // Rule 3.
-pub fn degrees_rule(degrees: [usize; ORDER], n: usize) -> u8
+pub fn degrees_rule(degrees: [usize; ORDER], n: usize) -> Result<(), u8>
     requires { (n ≤ order_limit) × ((i : ℕ) → i < n → at degrees i ≤ n) }
     ensures { result ≡ failing (eqb (total n (at degrees)) n) 3 }
 {
-    let mut sum = 0;
-    let mut i = 0;
-    while i < n {
-        sum = sum + degrees[i];
-        i = i + 1;
-    }
-    if sum == n {
-        return 0;
-    }
-    3
+    let sum: usize = degrees[..n].iter().sum();
+    if sum == n { Ok(()) } else { Err(3) }
 }

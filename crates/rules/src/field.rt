@@ -9,30 +9,26 @@ ghost use Rattle.products.specs.Searches.{failing};
 use matrices::loading::field_matrix;
 use matrices::{Mat, identity, product};
 
-// The rule at the first entry in which a and b differ, else 0.
-fn differing(a: Mat, b: Mat, n: usize, rule: u8) -> u8
+// Fails with the rule at the first entry in which a and b differ.
+fn differing(a: Mat, b: Mat, n: usize, rule: u8) -> Result<(), u8>
     requires { n ≤ order_limit }
     ensures { result ≡ failing (same_cells n a b) rule }
 {
-    let mut i = 0;
-    let failed = 'rows: loop {
-        if n <= i {
-            break 'rows 0;
-        }
-        let mut j = 0;
-        while j < n {
-            if a[i][j] != b[i][j] {
-                break 'rows rule;
+    let failed = 'rows: {
+        for i in 0..n {
+            for j in 0..n {
+                if a[i][j] != b[i][j] {
+                    break 'rows Err(rule);
+                }
             }
-            j = j + 1;
         }
-        i = i + 1;
+        Ok(())
     };
     failed
 }
 
 // Rule 8, with the payloads of T and its inverse.
-pub fn base_rule(base: &[u8], back: &[u8], n: usize, p: u8) -> u8
+pub fn base_rule(base: &[u8], back: &[u8], n: usize, p: u8) -> Result<(), u8>
     requires { BasePayloads p n base.now back.now }
     ensures { result ≡ failing (field_equal p n (field_product n (matrix n base.now) (matrix n back.now)) unit) 8 }
 {
@@ -41,7 +37,7 @@ pub fn base_rule(base: &[u8], back: &[u8], n: usize, p: u8) -> u8
 }
 
 // Rule 9, with the payloads of A, T and F.
-pub fn similar_rule(field: &[u8], base: &[u8], form: &[u8], n: usize, p: u8) -> u8
+pub fn similar_rule(field: &[u8], base: &[u8], form: &[u8], n: usize, p: u8) -> Result<(), u8>
     requires { SimilarPayloads p n field.now base.now form.now }
     ensures { result ≡ failing (field_equal p n (field_product n (matrix n field.now) (matrix n base.now)) (field_product n (matrix n base.now) (matrix n form.now))) 9 }
 {

@@ -8,7 +8,7 @@ ghost use Rattle.rules.specs.Diagonal.{DiagonalPayload, Degrees};
 ghost use Rattle.rules.specs.FrobeniusSearch.{CompanionPlace, FrobeniusPayloads};
 ghost use Rattle.products.specs.Searches.{failing};
 
-use crate::diagonal::polynomial_start;
+use crate::diagonal::polynomial;
 use forms::ORDER;
 use matrices::loading::field_entry;
 
@@ -18,12 +18,9 @@ fn companion_entry(form: &[u8], b: usize, m: usize, i: usize, j: usize, n: usize
     ensures { result ≡ companion p m (diagonal n form.now b) i j }
 {
     if j + 1 == m {
-        return (p - form[polynomial_start(b, n) + i]) % p;
+        return (p - polynomial(form, b, n)[i]) % p;
     }
-    if i == j + 1 {
-        return 1;
-    }
-    0
+    u8::from(i == j + 1)
 }
 
 // The entry (i, j) of the Frobenius form: past each block before it, then in its block or beside it.
@@ -33,43 +30,40 @@ fn frobenius_entry(form: &[u8], degrees: [usize; ORDER], i: usize, j: usize, n: 
 {
     let mut row = i;
     let mut column = j;
-    let mut b = 0;
-    while b < n {
+    for b in 0..n {
         let m = degrees[b];
-        if row < m {
-            if column < m {
-                return companion_entry(form, b, m, row, column, n, p);
-            }
+        if row < m && column < m {
+            return companion_entry(form, b, m, row, column, n, p);
+        }
+        if row < m || column < m {
             return 0;
         }
-        if column < m {
-            return 0;
-        }
-        row = row - m;
-        column = column - m;
-        b = b + 1;
+        row -= m;
+        column -= m;
     }
     0
 }
 
-// 7 at the first entry of F that is not that of the Frobenius form, else 0.
-pub fn frobenius_rule(form: &[u8], degrees: [usize; ORDER], field: &[u8], n: usize, p: u8) -> u8
+// Rule 7, which fails at the first entry of F that is not that of the Frobenius form.
+pub fn frobenius_rule(
+    form: &[u8],
+    degrees: [usize; ORDER],
+    field: &[u8],
+    n: usize,
+    p: u8,
+) -> Result<(), u8>
     requires { FrobeniusPayloads p n form.now field.now × Degrees n form.now degrees }
     ensures { result ≡ failing (field_equal p n (matrix n field.now) (frobenius p n (diagonal n form.now))) 7 }
 {
-    let mut i = 0;
-    let failed = 'rows: loop {
-        if n <= i {
-            break 'rows 0;
-        }
-        let mut j = 0;
-        while j < n {
-            if field_entry(field, i, j, n) != frobenius_entry(form, degrees, i, j, n, p) {
-                break 'rows 7;
+    let failed = 'rows: {
+        for i in 0..n {
+            for j in 0..n {
+                if field_entry(field, i, j, n) != frobenius_entry(form, degrees, i, j, n, p) {
+                    break 'rows Err(7);
+                }
             }
-            j = j + 1;
         }
-        i = i + 1;
+        Ok(())
     };
     failed
 }

@@ -1,4 +1,4 @@
-// The nine rules in code, on the lent bytes: each answers its number where it fails, else 0.
+// The nine rules in code, on the lent bytes: each fails with its number.
 #![tactic(auto)]
 
 pub mod diagonal; // rules 1 to 3

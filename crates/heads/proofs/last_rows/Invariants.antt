@@ -1,11 +1,8 @@
--- The loop, from the back: the rows from i on have the ends of their blocks, and `next` is that of row i.
-use Rattle.std.proofs.Common.{◌≡◌, length, ◌≤◌, ◌<◌}
+-- From the back: the rows from i on have the ends of their blocks, and `next` is that of row i.
+use Rattle.std.proofs.Common.{◌≡◌, length, ◌<◌}
 use Rattle.forms.specs.Numbers.{order_limit}
 use Rattle.heads.specs.Heads.{LastRow, LastRows}
 use Rattle.heads.proofs.last_rows.Given as goal
 
 abbrev pub invariant-loop-i : goal.invariant-loop-i
-invariant-loop-i l = (l.i ≤ l.n) × LastRows l.f l.n l.i l.rows × (l.i < l.n → LastRow l.f l.n l.i l.next) × (length l.rows ≡ order_limit)
-
-abbrev pub decreases-loop-i : goal.decreases-loop-i
-decreases-loop-i l = l.i
+invariant-loop-i l = LastRows l.f l.n l.i l.rows × (l.i < l.n → LastRow l.f l.n l.i l.next) × (length l.rows ≡ order_limit)

@@ -1,11 +1,8 @@
--- The loop: the first i rows stand at their places.
-use Rattle.std.proofs.Common.{◌≡◌, ◌≤◌, ◌-◌, length}
+-- The first i rows stand at their places.
+use Rattle.std.proofs.Common.{◌≡◌, length}
 use Rattle.forms.specs.Numbers.{order_limit}
 use Rattle.heads.specs.Heads.{others, Ordered}
 use Rattle.heads.proofs.order.Given as goal
 
 abbrev pub invariant-loop-i : goal.invariant-loop-i
-invariant-loop-i l = (l.i ≤ l.n) × (l.passed ≡ others l.f l.i) × Ordered l.f l.n l.i l.rows × (length l.rows ≡ order_limit)
-
-abbrev pub decreases-loop-i : goal.decreases-loop-i
-decreases-loop-i l = l.n - l.i
+invariant-loop-i l = (l.passed ≡ others l.f l.i) × Ordered l.f l.n l.i l.rows × (length l.rows ≡ order_limit)

@@ -1,20 +1,14 @@
 -- Each f_i is tested against the next, up to the first that does not divide it.
-use Rattle.std.proofs.Common.{sym, ◌∙◌, rules, arith}
+use Rattle.std.proofs.Common.{sym, ◌∙◌}
 use Rattle.matrices.specs.Filling.{every_start, every_turn}
-use Rattle.products.specs.Searches.{all_passed, one_failed}
+use Rattle.products.specs.Searches.{one_failed}
 use Rattle.rules.proofs.diagonal.chain_rule.Goals as goal
 
 pub loop-i-init : goal.loop-i-init
-loop-i-init c = (search rules, every_start _)
-
-pub divides_next-requires : goal.divides_next-requires
-divides_next-requires c = (c.requires.0, omega arith)
+loop-i-init c = every_start _
 
 pub returns-then-not-divides_next : goal.returns-then-not-divides_next
 returns-then-not-divides_next c = one_failed _ _ 2 c.loop-i.i c.loop-i-test.true (sym c.divides_next.ensures ∙ c.if-not-divides_next.true)
 
 pub loop-i-preserved : goal.loop-i-preserved
-loop-i-preserved c = (search rules, every_turn _ _ c.loop-i.invariant.1 (sym c.divides_next.ensures ∙ c.if-not-divides_next.false))
-
-pub returns : goal.returns
-returns c = let l = c.loop-i in all_passed _ _ 2 l.i l.invariant.1 l.invariant.0 c.loop-i-test.false
+loop-i-preserved c = every_turn _ _ c.loop-i.invariant (sym c.divides_next.ensures ∙ c.if-not-divides_next.false)

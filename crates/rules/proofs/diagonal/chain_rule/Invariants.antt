@@ -1,12 +1,9 @@
 -- Each f_i is tested against the next, up to the first that does not divide it.
-use Rattle.std.proofs.Common.{◌≡◌, true, suc, ◌-◌, ◌≤◌}
+use Rattle.std.proofs.Common.{◌≡◌, true, suc}
 use Rattle.forms.specs.Numbers.{every}
 use Rattle.forms.specs.Polynomials.{divides}
 use Rattle.forms.specs.Matrices.{diagonal}
 use Rattle.rules.proofs.diagonal.chain_rule.Given as goal
 
 abbrev pub invariant-loop-i : goal.invariant-loop-i
-invariant-loop-i l = (l.i ≤ l.n - 1) × (every l.i (λ k. divides l.p l.n (diagonal l.n l.form k) (diagonal l.n l.form (suc k))) ≡ true)
-
-abbrev pub decreases-loop-i : goal.decreases-loop-i
-decreases-loop-i l = l.n - l.i
+invariant-loop-i l = every l.i (λ k. divides l.p l.n (diagonal l.n l.form k) (diagonal l.n l.form (suc k))) ≡ true

@@ -1,5 +1,5 @@
 -- The degrees are filled in from the front.
-use Rattle.std.proofs.Common.{◌≡◌, ◌-◌, ◌≤◌, replicate}
+use Rattle.std.proofs.Common.{◌≡◌, replicate}
 use Rattle.forms.specs.Numbers.{order_limit}
 use Rattle.forms.specs.Polynomials.{degree}
 use Rattle.forms.specs.Matrices.{diagonal}
@@ -7,7 +7,4 @@ use Rattle.matrices.specs.Filling.{filled}
 use Rattle.rules.proofs.diagonal.degrees_of.Given as goal
 
 abbrev pub invariant-loop-i : goal.invariant-loop-i
-invariant-loop-i l = (l.i ≤ l.n) × (l.degrees ≡ filled l.i (λ k. degree l.n (diagonal l.n l.form k)) (replicate order_limit 0))
-
-abbrev pub decreases-loop-i : goal.decreases-loop-i
-decreases-loop-i l = l.n - l.i
+invariant-loop-i l = l.degrees ≡ filled l.i (λ k. degree l.n (diagonal l.n l.form k)) (replicate order_limit 0)

@@ -1,12 +1,9 @@
 -- Each f_i is tested at its degree, up to the first that is not monic.
-use Rattle.std.proofs.Common.{◌≡◌, true, ◌-◌, ◌≤◌}
+use Rattle.std.proofs.Common.{◌≡◌, true}
 use Rattle.forms.specs.Numbers.{every}
 use Rattle.forms.specs.Polynomials.{monic}
 use Rattle.forms.specs.Matrices.{diagonal}
 use Rattle.rules.proofs.diagonal.monic_rule.Given as goal
 
 abbrev pub invariant-loop-i : goal.invariant-loop-i
-invariant-loop-i l = (l.i ≤ l.n) × (every l.i (λ k. monic l.n (diagonal l.n l.form k)) ≡ true)
-
-abbrev pub decreases-loop-i : goal.decreases-loop-i
-decreases-loop-i l = l.n - l.i
+invariant-loop-i l = every l.i (λ k. monic l.n (diagonal l.n l.form k)) ≡ true

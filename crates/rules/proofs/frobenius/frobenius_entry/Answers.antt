@@ -1,18 +1,12 @@
 -- Once b blocks are passed, the entry is that at (row, column) of the blocks behind.
-use Rattle.std.proofs.Common.{◌∙◌, rules, arith}
+use Rattle.std.proofs.Common.{◌∙◌, inl, inr, arith}
 use Rattle.forms.specs.Matrices.{diagonal}
 use Rattle.forms.specs.Bounds.{degree_limited}
 use Rattle.rules.specs.FrobeniusSearch.{behind_none, behind_here, behind_above, behind_below, behind_more, behind_all}
 use Rattle.rules.proofs.frobenius.frobenius_entry.Goals as goal
 
 pub loop-b-init : goal.loop-b-init
-loop-b-init c = (search rules, behind_none _ _ _ _ _)
-
-pub offset_bounds-degrees-b : goal.offset_bounds-degrees-b
-offset_bounds-degrees-b c = omega (arith, c.requires.0.order)
-
-pub bounds-degrees-b : goal.bounds-degrees-b
-bounds-degrees-b c = omega (arith, c.requires.0.order)
+loop-b-init c = behind_none _ _ _ _ _
 
 pub companion_entry-requires : goal.companion_entry-requires
 companion_entry-requires c =
@@ -22,27 +16,22 @@ companion_entry-requires c =
 pub returns-then-column-m : goal.returns-then-column-m
 returns-then-column-m c =
     let a = c.args in let l = c.loop-b in
-    c.companion_entry.ensures ∙ behind_here a.p a.n _ a.i a.j l.b l.row l.column _ l.invariant.1 (c.requires.1 l.b c.loop-b-test.true) c.loop-b-test.true c.if-row-m.true c.if-column-m.true
+    c.companion_entry.ensures ∙ behind_here a.p a.n _ a.i a.j l.b l.row l.column _ l.invariant (c.requires.1 l.b c.loop-b-test.true) c.loop-b-test.true c.if-row-m.true c.if-column-m.true
 
-pub returns-then-row-m : goal.returns-then-row-m
-returns-then-row-m c =
-    let a = c.args in let l = c.loop-b in
-    behind_above a.p a.n _ a.i a.j l.b l.row l.column _ l.invariant.1 (c.requires.1 l.b c.loop-b-test.true) c.loop-b-test.true c.if-row-m.true c.if-column-m.false
-
-pub returns-then-column-m-2 : goal.returns-then-column-m-2
-returns-then-column-m-2 c =
-    let a = c.args in let l = c.loop-b in
-    behind_below a.p a.n _ a.i a.j l.b l.row l.column _ l.invariant.1 (c.requires.1 l.b c.loop-b-test.true) c.loop-b-test.true c.if-row-m.false c.if-column-m-2.true
-
-pub overflow_add-b : goal.overflow_add-b
-overflow_add-b c = omega (arith, c.requires.0.order)
+pub returns-then-row-m-2 : goal.returns-then-row-m-2
+returns-then-row-m-2 c =
+    let a = c.args in let l = c.loop-b in let is = c.requires.1 l.b c.loop-b-test.true in
+    elim c.else-row-m.either [
+      | inl w ↦ behind_above a.p a.n _ a.i a.j l.b l.row l.column _ l.invariant is c.loop-b-test.true w.0 w.1
+      | inr w ↦ behind_below a.p a.n _ a.i a.j l.b l.row l.column _ l.invariant is c.loop-b-test.true w (elim c.then-row-m-2.either [ inl v ↦ absurd (omega arith) | inr v ↦ v.1 ])
+    ]
 
 pub loop-b-preserved : goal.loop-b-preserved
 loop-b-preserved c =
     let a = c.args in let l = c.loop-b in
-    (search rules, behind_more a.p a.n _ a.i a.j l.b l.row l.column _ l.invariant.1 (c.requires.1 l.b c.loop-b-test.true) c.loop-b-test.true c.if-row-m.false c.if-column-m-2.false)
+    behind_more a.p a.n _ a.i a.j l.b l.row l.column _ l.invariant (c.requires.1 l.b c.loop-b-test.true) c.loop-b-test.true c.if-row-m-2.false c.if-column-m-2.false
 
 pub returns : goal.returns
 returns c =
     let a = c.args in let l = c.loop-b in
-    behind_all a.p a.n _ a.i a.j l.b l.row l.column l.invariant.1 c.loop-b-test.false
+    behind_all a.p a.n _ a.i a.j l.b l.row l.column l.invariant c.loop-b-test.false
