@@ -25,11 +25,11 @@ pub record ScalingLine (x shift l n : ℕ) (s : List ℕ) (line : List (List ℕ
   pub right_long : length s ≡ n * n * n
   pub has_room : RoomFor n product_limit line
 
--- f, of n coefficients from start on, times row l of a matrix is added to a row
-pub record MultiplyingLine (start l n : ℕ) (s t : List ℕ) (line : List (List ℕ)) : Type 0 where
+-- f times row l of a matrix is added to a row
+pub record MultiplyingLine (l n : ℕ) (f t : List ℕ) (line : List (List ℕ)) : Type 0 where
   pub order : n ≤ order_limit
   pub row : l < n
-  pub left_there : start + n ≤ length s
+  pub left_long : length f ≡ n
   pub right_long : length t ≡ n * n * n
   pub has_room : RoomFor n (n * product_limit) line
 

@@ -1,6 +1,6 @@
 -- An entry of a product of polynomial matrices, as the loop over the inner index sums it.
-use Rattle.std.specs.Prelude.{◌≡◌, Bool, List, ℕ, suc, ◌+◌, ◌*◌, ◌%◌, ◌≤◌, eqb, length, replicate}
-use Rattle.std.proofs.Common.{sym, ◌∙◌, add-one, mul-le-mul, le_refl, le_antisymm, arith}
+use Rattle.std.specs.Prelude.{◌≡◌, Bool, true, false, cond, List, ℕ, suc, ◌+◌, ◌*◌, ◌%◌, ◌≤◌, eqb, ltb, length, replicate, take, drop}
+use Rattle.std.proofs.Common.{sym, ◌∙◌, add-one, mul-le-mul, le_refl, le_antisymm, arith, ltb→lt, lt→ltb, length-take-le, length-drop, get_or-take, get_or-drop}
 use Rattle.std.proofs.Math.Path.{ap, fun_ext}
 use Rattle.std.proofs.Math.Decide.{dec_lt}
 use Rattle.std.proofs.lemmas.List.{get_or-replicate, length-replicate}
@@ -8,8 +8,10 @@ use Rattle.std.proofs.Math.ListN.{get_or-eq_default}
 use Rattle.forms.specs.Numbers.{at, total, every, order_limit}
 use Rattle.forms.specs.Polynomials.{Coefficients, convolution}
 use Rattle.forms.specs.Matrices.{PolynomialEntries, polynomial_matrix, polynomial_product, polynomial_unit}
+use Rattle.forms.specs.Tests.{cond_holds, cond_fails}
 use Rattle.forms.specs.Bounds.{Short, ShortEntries}
-use Rattle.products.specs.Sums.{term_limit, product_limit, room, coefficients, coefficients_small, Plus, products_convolution, products_small, total_small}
+use Rattle.products.specs.Indices.{Inside, entry_inside}
+use Rattle.products.specs.Sums.{term_limit, product_limit, room, Plus, products_convolution, products_small, total_small}
 
 -- the sums are the coefficients f
 pub record Holding (sums : List ℕ) (f : Coefficients) : Type 0 where
@@ -42,9 +44,20 @@ pub record Inverses (n : ℕ) (s t : List ℕ) : Type 0 where
   pub left_long : length s ≡ n * n * n
   pub right_long : length t ≡ n * n * n
 
-pub entry_coefficients : (n i j : ℕ) (s : List ℕ) (start : ℕ) → start ≡ (i * n + j) * n → coefficients n start s ≡ polynomial_matrix n s i j
-unfolding coefficients polynomial_matrix
-entry_coefficients n i j s start e = ap (λ (x : ℕ). coefficients n x s) e
+-- the n bytes from start on are n coefficients
+pub slice_coefficients : (n start m : ℕ) (s : List ℕ) → start + n ≤ length s → m ≡ n → (length (take m (drop start s)) ≡ n) × ((k : ℕ) → at (take m (drop start s)) k ≡ cond (ltb k n) (at s (start + k)) 0)
+slice_coefficients n start m s l e =
+    let long : length (take m (drop start s)) ≡ n = length-take-le m (drop start s) (omega (arith, length-drop start s)) ∙ e in (
+      long,
+      λ k. elim (dec_lt k n) [
+        | yes i ↦ get_or-take m (drop start s) k 0 (omega arith) ∙ get_or-drop start s k 0 ∙ sym (cond_holds (ltb k n) _ 0 (lt→ltb k n i))
+        | no i ↦ get_or-eq_default (take m (drop start s)) 0 {n = k} (omega arith) ∙ sym (cond_fails (ltb k n) _ 0 (λ t. i (ltb→lt k n t)))
+      ],
+    )
+
+pub entry_coefficients : (n i j m : ℕ) (s : List ℕ) → Inside n i j → length s ≡ n * n * n → m ≡ n → let e = take m (drop ((i * n + j) * n) s) in (length e ≡ n) × (at e ≡ polynomial_matrix n s i j)
+unfolding polynomial_matrix
+entry_coefficients n i j m s h l e = let c = slice_coefficients n ((i * n + j) * n) m s (omega (arith, entry_inside n i j h)) e in (c.0, fun_ext c.1)
 
 -- the products of one entry have few and small terms
 convolution_small : (n : ℕ) (f g : Coefficients) → n ≤ order_limit → Short n f → ((i : ℕ) → f i ≤ 255) → ((i : ℕ) → g i ≤ 255) → (k : ℕ) → convolution f g k ≤ order_limit * product_limit
@@ -80,8 +93,12 @@ abbrev pub ByteEntries : PolynomialEntries → Type 0
 ByteEntries P = (i j k : ℕ) → P i j k ≤ 255
 
 pub matrix_bytes : (n : ℕ) (s : List ℕ) → ((k : ℕ) → at s k ≤ 255) → ByteEntries (polynomial_matrix n s)
-unfolding coefficients polynomial_matrix
-matrix_bytes n s h i j k = coefficients_small n ((i * n + j) * n) s h k
+unfolding polynomial_matrix
+matrix_bytes n s h i j k = at_test (ltb k n)
+  where
+    at_test : (b : Bool) → cond b (at s ((i * n + j) * n + k)) 0 ≤ 255
+    at_test true = h _
+    at_test false = omega arith
 
 -- there is room for the next product of two entries
 pub partial_low : (P Q : PolynomialEntries) (n l i j : ℕ) (sums : List ℕ) → ShortEntries n P → ByteEntries P → ByteEntries Q → n ≤ order_limit → l ≤ n → Holding sums (partial l P Q i j) → (k : ℕ) → at sums k + n * product_limit ≤ room

@@ -1,6 +1,8 @@
 -- Searches that end at the first failing test and answer with a rule: over one index, and over rows and columns.
-use Rattle.std.specs.Prelude.{◌≡◌, refl, Bool, true, false, cond, ◌&&◌, ℕ, zero, suc, ◌≤◌, ◌<◌, Result, Ok, Err}
-use Rattle.std.proofs.Common.{sym, ap, ap₂, le_antisymm, arith}
+use Rattle.std.specs.Prelude.{◌≡◌, refl, Bool, true, false, cond, ◌&&◌, ℕ, zero, suc, ◌+◌, ◌≤◌, ◌<◌, Result, Ok, Err}
+use Rattle.std.specs.List.{list_all, range_with_len}
+use Rattle.std.proofs.Common.{sym, ◌∙◌, ap, ap₂, add-zero, zero-add, le_antisymm, arith}
+use Rattle.std.proofs.Math.Bool.{and_assoc, and-true}
 use Rattle.forms.specs.Numbers.{every}
 use Rattle.matrices.specs.Filling.{every_fails}
 
@@ -27,3 +29,19 @@ pub every_equal : (n : ℕ) (t u : ℕ → Bool) → ((i : ℕ) → i < n → t 
 unfolding every
 every_equal zero t u h = refl
 every_equal (suc n) t u h = ap₂ ◌&&◌ (every_equal n t u (λ i l. h i (omega arith))) (h n (omega arith))
+
+-- the test of each number of a range, from the front
+every_front : (n : ℕ) (t : ℕ → Bool) → every (suc n) t ≡ (t 0 && every n (λ i. t (suc i)))
+unfolding every
+every_front zero t = sym (and-true (t 0))
+every_front (suc n) t = ap (λ (b : Bool). b && t (suc n)) (every_front n t) ∙ and_assoc (t 0) _ _
+
+every_from : (a n : ℕ) (t : ℕ → Bool) → list_all t (range_with_len a n) ≡ every n (λ i. t (a + i))
+unfolding every
+every_from a zero t = refl
+every_from a (suc n) t =
+    ap₂ ◌&&◌ (ap t (sym (add-zero a))) (every_from (a + 1) n t ∙ every_equal n _ _ (λ i l. ap t (omega arith)))
+    ∙ sym (every_front n (λ i. t (a + i)))
+
+pub every_range : (n : ℕ) (t : ℕ → Bool) → list_all t (range_with_len 0 n) ≡ every n t
+every_range n t = every_from 0 n t ∙ every_equal n _ t (λ i l. ap t (zero-add i))

@@ -1,9 +1,10 @@
 -- Sums of scaled polynomials, coefficient by coefficient and without reduction, as the loops build them.
 use Rattle.std.specs.Prelude.{◌≡◌, refl, ◌≢◌, cond, List, ℕ, zero, suc, ◌+◌, ◌*◌, ◌-◌, ◌≤◌, ◌<◌, eqb, ltb, leb, length, set}
-use Rattle.std.proofs.Common.{sym, ◌∙◌, add-one, mul-zero, zero-mul, add-zero, suc-mul, add_comm, mul-le-mul, le_antisymm, arith, eqb→eq, ltb→lt, lt→ltb, leb→le, le→leb, length-set, get_or-set_same, get_or-set_other}
-use Rattle.std.proofs.Math.Path.{ap, ap₂}
+use Rattle.std.proofs.Common.{sym, ◌∙◌, subst, add-one, mul-zero, zero-mul, add-zero, suc-mul, add_comm, mul-le-mul, le_antisymm, arith, eqb→eq, ltb→lt, lt→ltb, leb→le, le→leb, length-set, get_or-set_same, get_or-set_other}
+use Rattle.std.proofs.Math.Path.{ap, ap₂, fun_ext}
 use Rattle.std.proofs.Math.Decide.{ℕ_discrete, dec_lt, dec_le}
 use Rattle.std.proofs.Math.Nat.{add_assoc}
+use Rattle.std.proofs.Math.ListN.{get_or-eq_default}
 use Rattle.forms.specs.Numbers.{at, total, order_limit}
 use Rattle.forms.specs.Polynomials.{Coefficients, convolution}
 use Rattle.forms.specs.Tests.{cond_holds, cond_fails, equal_holds, total_equal, total_short}
@@ -20,29 +21,26 @@ product_limit = 65025
 abbrev pub room : ℕ
 room = 4000000000
 
--- the n coefficients that stand in s from start on
-unfoldable pub coefficients : ℕ → ℕ → List ℕ → Coefficients
-coefficients n start s k = cond (ltb k n) (at s (start + k)) 0
+-- the first n coefficients of g
+unfoldable pub first : ℕ → Coefficients → Coefficients
+first n g k = cond (ltb k n) (g k) 0
 
 -- X^m g
 unfoldable pub shifted : ℕ → Coefficients → Coefficients
 shifted m g k = cond (leb m k) (g (k - m)) 0
 
--- n coefficients from start on are scaled by x, shifted and added to sums
-pub record Scaling (x shift start n : ℕ) (s sums : List ℕ) : Type 0 where
+-- g, scaled by x and shifted, is added to sums
+pub record Scaling (x shift : ℕ) (g sums : List ℕ) : Type 0 where
   pub byte : x ≤ 255
-  pub inside : shift + n ≤ term_limit
-  pub there : start + n ≤ length s
+  pub inside : shift + length g ≤ term_limit
   pub long : length sums ≡ term_limit
   pub low : (k : ℕ) → at sums k ≤ room
 
--- f, of m coefficients from a on, times g, of n coefficients from b on, is added to sums
-pub record Multiplying (a m b n : ℕ) (s t sums : List ℕ) : Type 0 where
-  pub inside : m + n ≤ term_limit
-  pub left_there : a + m ≤ length s
-  pub right_there : b + n ≤ length t
+-- f times g is added to sums
+pub record Multiplying (f g sums : List ℕ) : Type 0 where
+  pub inside : length f + length g ≤ term_limit
   pub long : length sums ≡ term_limit
-  pub low : (k : ℕ) → at sums k + m * product_limit ≤ room
+  pub low : (k : ℕ) → at sums k + length f * product_limit ≤ room
 
 -- after is sums with f added
 pub record Plus (after sums : List ℕ) (f : Coefficients) : Type 0 where
@@ -52,13 +50,20 @@ pub record Plus (after sums : List ℕ) (f : Coefficients) : Type 0 where
 pub plus_nothing : (sums : List ℕ) (f : Coefficients) → ((k : ℕ) → f k ≡ 0) → Plus sums sums f
 plus_nothing sums f e = record { long = refl; each = λ k. sym (ap (λ (x : ℕ). at sums k + x) (e k) ∙ add-zero _) }
 
-pub coefficients_inside : (n start : ℕ) (s : List ℕ) (k : ℕ) → k < n → coefficients n start s k ≡ at s (start + k)
-unfolding coefficients
-coefficients_inside n start s k l = cond_holds (ltb k n) _ 0 (lt→ltb k n l)
+-- a list has no coefficient past its end
+pub list_short : (s : List ℕ) → Short (length s) (at s)
+list_short s k l = get_or-eq_default s 0 l
 
-pub coefficients_outside : (n start : ℕ) (s : List ℕ) (k : ℕ) → n ≤ k → coefficients n start s k ≡ 0
-unfolding coefficients
-coefficients_outside n start s k l = cond_fails (ltb k n) _ 0 (λ t. (let h = ltb→lt k n t in omega arith))
+first_inside : (n : ℕ) (g : Coefficients) (k : ℕ) → k < n → first n g k ≡ g k
+unfolding first
+first_inside n g k l = cond_holds (ltb k n) _ 0 (lt→ltb k n l)
+
+first_outside : (n : ℕ) (g : Coefficients) (k : ℕ) → n ≤ k → first n g k ≡ 0
+unfolding first
+first_outside n g k l = cond_fails (ltb k n) _ 0 (λ t. (let h = ltb→lt k n t in omega arith))
+
+first_all : (n : ℕ) (g : Coefficients) → Short n g → first n g ≡ g
+first_all n g short = fun_ext (λ k. elim (dec_lt k n) [ yes l ↦ first_inside n g k l | no l ↦ first_outside n g k (omega arith) ∙ sym (short k (omega arith)) ])
 
 pub shifted_inside : (m : ℕ) (g : Coefficients) (k : ℕ) → m ≤ k → shifted m g k ≡ g (k - m)
 unfolding shifted
@@ -69,50 +74,53 @@ unfolding shifted
 shifted_outside m g k l = cond_fails (leb m k) _ 0 (λ t. (let h = leb→le m k t in omega arith))
 
 -- one more coefficient
-coefficients_more : (n start : ℕ) (s : List ℕ) (k : ℕ) → k ≢ n → coefficients (n + 1) start s k ≡ coefficients n start s k
-coefficients_more n start s k o = elim (dec_lt k n) [
-  | yes l ↦ coefficients_inside (n + 1) start s k (omega arith) ∙ sym (coefficients_inside n start s k l)
-  | no l ↦ coefficients_outside (n + 1) start s k (omega arith) ∙ sym (coefficients_outside n start s k (omega arith))
+first_more : (n : ℕ) (g : Coefficients) (k : ℕ) → k ≢ n → first (n + 1) g k ≡ first n g k
+first_more n g k o = elim (dec_lt k n) [
+  | yes l ↦ first_inside (n + 1) g k (omega arith) ∙ sym (first_inside n g k l)
+  | no l ↦ first_outside (n + 1) g k (omega arith) ∙ sym (first_outside n g k (omega arith))
 ]
 
-shifted_more : (m n start : ℕ) (s : List ℕ) (k : ℕ) → k ≢ m + n → shifted m (coefficients (n + 1) start s) k ≡ shifted m (coefficients n start s) k
-shifted_more m n start s k o = elim (dec_le m k) [
-  | yes l ↦ shifted_inside m _ k l ∙ coefficients_more n start s (k - m) (omega arith) ∙ sym (shifted_inside m _ k l)
+shifted_more : (m n : ℕ) (g : Coefficients) (k : ℕ) → k ≢ m + n → shifted m (first (n + 1) g) k ≡ shifted m (first n g) k
+shifted_more m n g k o = elim (dec_le m k) [
+  | yes l ↦ shifted_inside m _ k l ∙ first_more n g (k - m) (omega arith) ∙ sym (shifted_inside m _ k l)
   | no l ↦ shifted_outside m _ k (omega arith) ∙ sym (shifted_outside m _ k (omega arith))
 ]
 
 -- the loop that adds x X^shift g: none of it, one more coefficient, and the sum where that goes
-module _ (x shift start : ℕ) (s : List ℕ) where
+module _ (x shift : ℕ) (g : Coefficients) where
   abbrev scaled : ℕ → Coefficients
-  scaled n k = x * shifted shift (coefficients n start s) k
+  scaled n k = x * shifted shift (first n g) k
 
-  scaled_zero : (n k : ℕ) → shifted shift (coefficients n start s) k ≡ 0 → scaled n k ≡ 0
+  scaled_zero : (n k : ℕ) → shifted shift (first n g) k ≡ 0 → scaled n k ≡ 0
   scaled_zero n k e = ap (λ (b : ℕ). x * b) e ∙ mul-zero x
 
   pub scaled_none : (sums : List ℕ) → Plus sums sums (scaled 0)
   scaled_none sums = plus_nothing sums (scaled 0) (λ k. scaled_zero 0 k (elim (dec_le shift k) [
-    | yes l ↦ shifted_inside shift _ k l ∙ coefficients_outside 0 start s (k - shift) (omega arith)
+    | yes l ↦ shifted_inside shift _ k l ∙ first_outside 0 g (k - shift) (omega arith)
     | no l ↦ shifted_outside shift _ k (omega arith)
   ]))
 
   module _ (n : ℕ) (before sums : List ℕ) (h : Plus sums before (scaled n)) where
     pub scaled_ahead : at sums (shift + n) ≡ at before (shift + n)
-    scaled_ahead = h.each (shift + n) ∙ ap (λ (y : ℕ). at before (shift + n) + y) (scaled_zero n (shift + n) (shifted_inside shift _ (shift + n) (omega arith) ∙ coefficients_outside n start s (shift + n - shift) (omega arith))) ∙ add-zero _
+    scaled_ahead = h.each (shift + n) ∙ ap (λ (y : ℕ). at before (shift + n) + y) (scaled_zero n (shift + n) (shifted_inside shift _ (shift + n) (omega arith) ∙ first_outside n g (shift + n - shift) (omega arith))) ∙ add-zero _
 
-    pub scaled_more : shift + n < length sums → (y : ℕ) → y ≡ at s (start + n) → Plus (set sums (shift + n) (at sums (shift + n) + x * y)) before (scaled (n + 1))
+    pub scaled_more : shift + n < length sums → (y : ℕ) → y ≡ g n → Plus (set sums (shift + n) (at sums (shift + n) + x * y)) before (scaled (n + 1))
     scaled_more l y e = record {
       long = simp length-set h.long;
       each = λ k. elim (ℕ_discrete k (shift + n)) [
         | yes q ↦ rw q (get_or-set_same sums (shift + n) _ 0 l ∙ ap₂ (λ (a b : ℕ). a + x * b) scaled_ahead (e ∙ sym new))
-        | no o ↦ get_or-set_other sums (shift + n) k _ 0 o ∙ h.each k ∙ ap (λ (b : ℕ). at before k + x * b) (sym (shifted_more shift n start s k o))
+        | no o ↦ get_or-set_other sums (shift + n) k _ 0 o ∙ h.each k ∙ ap (λ (b : ℕ). at before k + x * b) (sym (shifted_more shift n g k o))
       ];
     }
       where
         back : shift + n - shift ≡ n
         back = omega arith
 
-        new : shifted shift (coefficients (n + 1) start s) (shift + n) ≡ at s (start + n)
-        new = shifted_inside shift _ (shift + n) (omega arith) ∙ coefficients_inside (n + 1) start s (shift + n - shift) (omega arith) ∙ ap (λ (i : ℕ). at s (start + i)) back
+        new : shifted shift (first (n + 1) g) (shift + n) ≡ g n
+        new = shifted_inside shift _ (shift + n) (omega arith) ∙ first_inside (n + 1) g (shift + n - shift) (omega arith) ∙ ap g back
+
+    pub scaled_all : (m : ℕ) → n ≤ m → m ≤ n → Short m g → Plus sums before (λ k. x * shifted shift g k)
+    scaled_all m l r short = subst (λ (f : Coefficients). Plus sums before (λ k. x * shifted shift f k)) (ap (λ (i : ℕ). first i g) (le_antisymm l r) ∙ first_all m g short) h
 
 -- y X^m
 unfoldable pub monomial : ℕ → ℕ → Coefficients
@@ -166,9 +174,6 @@ products_small m f g x y k = total_small m product_limit _ (λ i. mul-le-mul (x 
   where
     shifted_small : (i : ℕ) → shifted i g k ≤ 255
     shifted_small i = elim (dec_le i k) [ yes l ↦ rw (shifted_inside i g k l) (y (k - i)) | no l ↦ rw (shifted_outside i g k (omega arith)) (omega arith) ]
-
-pub coefficients_small : (n start : ℕ) (s : List ℕ) → ((i : ℕ) → at s i ≤ 255) → (k : ℕ) → coefficients n start s k ≤ 255
-coefficients_small n start s h k = elim (dec_lt k n) [ yes l ↦ rw (coefficients_inside n start s k l) (h (start + k)) | no l ↦ rw (coefficients_outside n start s k (omega arith)) (omega arith) ]
 
 module _ (f g : Coefficients) where
   pub products_none : (sums : List ℕ) → Plus sums sums (products 0 f g)

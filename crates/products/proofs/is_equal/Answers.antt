@@ -1,17 +1,12 @@
--- The coefficients are tested from the front, up to the first that differs modulo p.
-use Rattle.std.proofs.Common.{sym, ◌∙◌, rules, arith}
-use Rattle.products.specs.Searches.{every_all}
-use Rattle.matrices.specs.Filling.{every_start, every_turn, every_fails}
+-- Each of the coefficients is tested.
+use Rattle.std.proofs.Common.{◌∙◌, refl, Bool, ℕ, suc, ◌*◌, ◌%◌, eqb, rules, tests, arith}
+use Rattle.std.proofs.lemmas.Iterator.{YieldsList-from_range}
+use Rattle.std.proofs.lemmas.Iterator.Search.{all_from_yields_List}
+use Rattle.forms.specs.Numbers.{at}
+use Rattle.products.specs.Searches.{every_range}
 use Rattle.products.proofs.is_equal.Goals as goal
 
-pub loop-k-init : goal.loop-k-init
-loop-k-init c = (search rules, every_start _)
-
-pub returns-then-not-is_congruent : goal.returns-then-not-is_congruent
-returns-then-not-is_congruent c = sym (every_fails _ _ c.loop-k.k (omega arith) (sym c.is_congruent.ensures ∙ c.if-not-is_congruent.true))
-
-pub loop-k-preserved : goal.loop-k-preserved
-loop-k-preserved c = (search rules, every_turn _ _ c.loop-k.invariant.1 (sym c.is_congruent.ensures ∙ c.if-not-is_congruent.false))
-
 pub returns : goal.returns
-returns c = let l = c.loop-k in sym (every_all _ _ l.k l.invariant.1 l.invariant.0 (omega arith))
+returns c =
+    let a = c.args in let z = suc (2 * a.n) in let t : ℕ → Bool = λ k. eqb (at a.f.now k % a.p) (at a.g.now k % a.p) in
+    all_from_yields_List t _ _ _ c.all.ensures.ran (YieldsList-from_range 0 _ z refl (omega arith)) (λ x b q k. search (rules, tests)) ∙ every_range z t

@@ -1,18 +1,13 @@
--- The coefficients are tested from the front, up to the first that is not that of E modulo p.
-use Rattle.std.proofs.Common.{sym, ◌∙◌, ap, ℕ, ◌%◌, eqb, rules, arith}
+-- Each of the coefficients is tested.
+use Rattle.std.proofs.Common.{◌∙◌, refl, Bool, ℕ, suc, ◌*◌, ◌%◌, eqb, rules, tests, arith}
+use Rattle.std.proofs.lemmas.Iterator.{YieldsList-from_range}
+use Rattle.std.proofs.lemmas.Iterator.Search.{all_from_yields_List}
 use Rattle.forms.specs.Numbers.{at}
-use Rattle.matrices.specs.Filling.{every_start, every_turn, every_fails}
-use Rattle.products.specs.Searches.{every_all}
+use Rattle.forms.specs.Matrices.{polynomial_unit}
+use Rattle.products.specs.Searches.{every_range}
 use Rattle.products.proofs.is_unit_entry.Goals as goal
 
-pub loop-d-init : goal.loop-d-init
-loop-d-init c = (search rules, every_start _)
-
-pub returns-then-not-is_congruent : goal.returns-then-not-is_congruent
-returns-then-not-is_congruent c = sym (every_fails _ _ c.loop-d.d (omega arith) (sym (c.is_congruent.ensures ∙ ap (λ (y : ℕ). eqb (at c.args.sums.now c.loop-d.d % c.args.p) (y % c.args.p)) c.unit_coefficient.ensures) ∙ c.if-not-is_congruent.true))
-
-pub loop-d-preserved : goal.loop-d-preserved
-loop-d-preserved c = (search rules, every_turn _ _ c.loop-d.invariant.1 (sym (c.is_congruent.ensures ∙ ap (λ (y : ℕ). eqb (at c.args.sums.now c.loop-d.d % c.args.p) (y % c.args.p)) c.unit_coefficient.ensures) ∙ c.if-not-is_congruent.false))
-
 pub returns : goal.returns
-returns c = let l = c.loop-d in sym (every_all _ _ l.d l.invariant.1 l.invariant.0 (omega arith))
+returns c =
+    let a = c.args in let z = suc (2 * a.n) in let t : ℕ → Bool = λ k. eqb (at a.sums.now k % a.p) (polynomial_unit a.i a.j k % a.p) in
+    all_from_yields_List t _ _ _ c.all.ensures.ran (YieldsList-from_range 0 _ z refl (omega arith)) (λ x b q k. search (rules, tests)) ∙ every_range z t
