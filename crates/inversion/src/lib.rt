@@ -5,7 +5,7 @@ ghost use Rattle.std.specs.Prelude.{◌≡◌, [], ◌+◌, ◌%◌, ◌≤◌, 
 ghost use Rattle.forms.specs.Numbers.{prime, order_limit};
 ghost use Rattle.matrices.specs.Rows.{plus_row};
 ghost use Rattle.inversion.specs.RowAddition.{RowAdded};
-ghost use Rattle.inversion.specs.Inversion.{PlaceReady, PlacedIn, Pivot, PivotReady, Cleared, Inverted};
+ghost use Rattle.inversion.specs.Inversion.{PlaceReady, PlacedIn, Pivoted, PivotReady, Cleared, Inverted};
 ghost use Rattle.inversion.specs.Zeros.{zero_entries, is_zero};
 
 use forms::ORDER;
@@ -21,10 +21,8 @@ pub fn plus_row(x: Row, k: u8, y: Row, n: usize, p: u8) -> Row
     ensures { result ≡ plus_row p n x k y }
 {
     let mut r = [0u8; ORDER];
-    let mut j = 0;
-    while j < n {
+    for j in 0..n {
         r[j] = plus_multiple(x[j], k, y[j], p);
-        j = j + 1;
     }
     r
 }
@@ -53,20 +51,12 @@ fn place(s: Pair, i: usize, j: usize, from: usize, d: u8, n: usize, p: u8) -> Pa
     [m, t]
 }
 
-// The first row from j on with a non-zero entry in column j, or n.
-fn pivot(m: Mat, j: usize, n: usize, p: u8) -> usize
+// The first row from j on with a non-zero entry in column j.
+fn pivot(m: Mat, j: usize, n: usize, p: u8) -> Option<usize>
     requires { (n ≤ order_limit) × (j < n) × (0 < p) }
-    ensures { Pivot p n j m result }
+    ensures { Pivoted p n j m result }
 {
-    let mut i = j;
-    while i < n {
-        let x = m[i][j];
-        if x % p != 0 {
-            return i;
-        }
-        i = i + 1;
-    }
-    n
+    (j..n).find(|i| m[*i][j] % p != 0)
 }
 
 // Column j becomes that of E, from the pivot in row q.
@@ -76,46 +66,34 @@ fn clear(s: Pair, j: usize, q: usize, n: usize, p: u8) -> Pair
 {
     let d = reciprocal_of(s[0][q][j] % p, p);
     let mut t = place(s, j, j, q, d, n, p);
-    let mut i = 0;
-    while i < n {
+    for i in 0..n {
         let x = place(t, i, j, j, 1, n, p);
         t = x;
-        i = i + 1;
     }
     t
 }
 
-// The inverse of a, or zero where a has none.
-pub fn inverse(a: Mat, n: usize, p: u8) -> Mat
+// The inverse of a, if it has one.
+pub fn inverse(a: Mat, n: usize, p: u8) -> Option<Mat>
     requires { T (prime p) × (n ≤ order_limit) }
     ensures { Inverted p n a result }
 {
     let mut s = [a, identity(n)];
-    let mut j = 0;
-    while j < n {
-        let q = pivot(s[0], j, n, p);
-        if n <= q {
-            return [[0u8; ORDER]; ORDER];
-        }
+    for j in 0..n {
+        let Some(q) = pivot(s[0], j, n, p) else {
+            return None;
+        };
         let x = clear(s, j, q, n, p);
         s = x;
-        j = j + 1;
     }
-    s[1]
+    Some(s[1])
 }
 
 fn is_zero_row(v: Row, n: usize) -> bool
     requires { n ≤ order_limit }
     ensures { result ≡ zero_entries n v }
 {
-    let mut j = 0;
-    while j < n {
-        if v[j] != 0 {
-            return false;
-        }
-        j = j + 1;
-    }
-    true
+    v[..n].iter().all(|x| *x == 0)
 }
 
 // Whether m is zero, which no inverse is.
@@ -123,12 +101,5 @@ pub fn is_zero(m: Mat, n: usize) -> bool
     requires { n ≤ order_limit }
     ensures { result ≡ is_zero n m }
 {
-    let mut i = 0;
-    while i < n {
-        if !is_zero_row(m[i], n) {
-            return false;
-        }
-        i = i + 1;
-    }
-    true
+    m[..n].iter().all(|v| is_zero_row(*v, n))
 }

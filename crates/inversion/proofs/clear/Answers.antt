@@ -14,13 +14,13 @@ pub place-t-requires : goal.place-t-requires
 place-t-requires c = pivot_ready _ _ _ _ _ _ c.requires c.reciprocal_of-d.ensures
 
 pub loop-i-init : goal.loop-i-init
-loop-i-init c = (search rules, clearing_start _ _ _ _ _ _ _ c.place-t.ensures)
+loop-i-init c = clearing_start _ _ _ _ _ _ _ c.place-t.ensures
 
 pub place-x-requires : goal.place-x-requires
-place-x-requires c = let s = c.before.before.before.before.before in clearing_ready _ _ _ _ _ _ _ _ s.requires.upto (prime_positive _ s.requires.prime) (omega (arith, s.requires.low, s.requires.high)) (search rules) c.loop-i.invariant.1
+place-x-requires c = let s = c.before.before.before.before.before in clearing_ready _ _ _ _ _ _ _ _ s.requires.upto (prime_positive _ s.requires.prime) (omega (arith, s.requires.pivot.low, s.requires.pivot.high)) (search rules) c.loop-i.invariant
 
 pub loop-i-preserved : goal.loop-i-preserved
-loop-i-preserved c = (search rules, clearing_turn _ _ _ _ _ _ _ _ _ _ c.loop-i.invariant.1 c.place-x.ensures)
+loop-i-preserved c = clearing_turn _ _ _ _ _ _ _ _ _ _ c.loop-i.invariant c.place-x.ensures
 
 pub returns : goal.returns
-returns c = clearing_end _ _ _ _ _ _ _ _ _ _ c.loop-i-test.false c.place-t.ensures c.loop-i.invariant.1
+returns c = clearing_end _ _ _ _ _ _ _ _ _ _ c.loop-i-test.false c.place-t.ensures c.loop-i.invariant
