@@ -93,9 +93,6 @@ pub record PlacedIn (p n i j : ℕ) (m s u v : List (List ℕ)) : Type 0 where
   pub placed : Placed (modulo p) n i j (matrix p n m) (matrix p n u)
   pub keeps : (a : List (List ℕ)) → Eliminating p n j a m s → Eliminating p n j a u v
 
-pub remainder_upto : (x p : ℕ) → 0 < p → x % p ≤ p
-remainder_upto x p h = let l : x % p < p = mod-lt x h in omega arith
-
 module _ (p n i j from d : ℕ) (m : List (List ℕ)) (h : PlaceReady p n i j from d m) where
   open modulo p use {plus as ◌⊕◌, times as ◌⊗◌, minus as ⊖◌, zero as 𝟘, one as 𝟙}
 
