@@ -1,40 +1,45 @@
 -- The inverse of a field matrix, by elimination on M and S with S A = M: what each step needs and keeps, and what the answer is.
-use Rattle.std.specs.Prelude.{◌≡◌, refl, ◌≢◌, ◌⊎◌, List, ℕ, ◌+◌, ◌*◌, ◌-◌, ◌%◌, ◌≤◌, ◌<◌, T, get_or}
-use Rattle.std.proofs.Common.{sym, ◌∙◌, ap, ap₂, inl, inr, ⊎_elim, add-one, mod-lt, le_antisymm, arith}
+use Rattle.std.specs.Prelude.{◌≡◌, refl, ◌≢◌, Option, Some, None, MatchOption, IfSome, List, ℕ, ◌+◌, ◌*◌, ◌-◌, ◌%◌, ◌≤◌, ◌<◌, T, get_or}
+use Rattle.std.proofs.Common.{sym, ◌∙◌, ap, ap₂, add-one, mod-lt, le_antisymm, arith}
 use Rattle.std.proofs.Math.Decide.{ℕ_discrete}
 use Rattle.forms.specs.Numbers.{prime, order_limit}
 use Rattle.forms.specs.Primes.{prime_positive}
 use Rattle.forms.specs.Reciprocals.{InverseOf}
 use Rattle.algebra.specs.Ring.{zero_plus, one_times}
 use Rattle.algebra.specs.Sum.{delta, delta_same, delta_symmetric}
-use Rattle.algebra.specs.Matrix.{Matrix, Within, product, identity, matrix_zero}
+use Rattle.algebra.specs.Matrix.{Matrix, Within, product, identity}
 use Rattle.algebra.specs.Inverse.{Inverse, inverse_unique}
 use Rattle.algebra.specs.Elimination.{Eliminated, eliminated_start, eliminated_step, eliminated_column, eliminated_end, eliminated_none, Placed, place_factor, placed, place_unit}
 use Rattle.algebra.specs.Modular.{residue, modulo, residue_zero, residue_one, residue_minus, residue_times, residue_remainder, zero_residue, Prime, positive, one_is_not_zero}
 use Rattle.algebra.specs.PrimeField.{prime_domain}
 use Rattle.algebra.specs.OneSided.{inverse_of_right}
-use Rattle.matrices.specs.Matrices.{cell, matrix, matrix_inside, matrix_within, matrix_of_zeros, FieldMatrix, zero_rows, zero_rows_at, zero_rows_field, Square, field_matrix_determined}
+use Rattle.matrices.specs.Matrices.{cell, matrix, matrix_inside, matrix_within, FieldMatrix, Square, field_matrix_determined}
 use Rattle.matrices.specs.Rows.{residue_plus_multiple, unit_row, unit_row_at, IsIdentity}
 use Rattle.inversion.specs.RowAddition.{RowAdded}
 
--- r is the inverse of a, or a has none, and then r is zero
-pub record Inverted (p n : ℕ) (a r : List (List ℕ)) : Type 0 where
+-- no X has X A = E
+abbrev pub NoInverse : ℕ → ℕ → List (List ℕ) → Type 0
+NoInverse p n a = (X : Matrix (modulo p)) → ¬ (product (modulo p) n X (matrix p n a) ≡ identity (modulo p) n)
+
+-- r is the inverse of a
+pub record InverseIs (p n : ℕ) (a r : List (List ℕ)) : Type 0 where
   pub field : FieldMatrix p n r
-  pub answer : Inverse (modulo p) n (matrix p n a) (matrix p n r)
-      ⊎ ((matrix p n r ≡ matrix_zero (modulo p)) × ((X : Matrix (modulo p)) → ¬ (product (modulo p) n X (matrix p n a) ≡ identity (modulo p) n)))
+  pub inverse : Inverse (modulo p) n (matrix p n a) (matrix p n r)
+
+-- r is the inverse of a, or a has none
+abbrev pub Inverted : ℕ → ℕ → List (List ℕ) → Option (List (List ℕ)) → Type 0
+Inverted p n a r = MatchOption r (NoInverse p n a) (InverseIs p n a)
 
 -- any two answers are the same, byte by byte
-pub inverted_determined : (p n : ℕ) (a r s : List (List ℕ)) → Square r → Square s → Inverted p n a r → Inverted p n a s → r ≡ s
-inverted_determined p n a r s u v x y = field_matrix_determined p n r s u v x.field y.field (⊎_elim
-    (λ i. ⊎_elim
-    (λ j. inverse_unique (modulo p) n (matrix p n a) (matrix p n r) (matrix p n s) i.inverse_within j.inverse_within i.right j.left)
-    (λ z. absurd (z.1 (matrix p n r) i.left)) y.answer)
-    (λ z. ⊎_elim
-    (λ j. absurd (z.1 (matrix p n s) j.left))
-    (λ w. z.0 ∙ sym w.0) y.answer) x.answer)
+pub inverted_determined : (p n : ℕ) (a : List (List ℕ)) (r s : Option (List (List ℕ))) → IfSome r Square → IfSome s Square → Inverted p n a r → Inverted p n a s → r ≡ s
+inverted_determined p n a None None u v x y = refl
+inverted_determined p n a None (Some s) u v x y = absurd (x (matrix p n s) y.inverse.left)
+inverted_determined p n a (Some r) None u v x y = absurd (y (matrix p n r) x.inverse.left)
+inverted_determined p n a (Some r) (Some s) u v x y = ap Some (field_matrix_determined p n r s u v x.field y.field
+    (inverse_unique (modulo p) n (matrix p n a) (matrix p n r) (matrix p n s) x.inverse.inverse_within y.inverse.inverse_within x.inverse.right y.inverse.left))
 
 -- over a prime there is then no right inverse either
-pub no_right_inverse : (p n : ℕ) (a : List (List ℕ)) → Prime p → ((X : Matrix (modulo p)) → ¬ (product (modulo p) n X (matrix p n a) ≡ identity (modulo p) n))
+pub no_right_inverse : (p n : ℕ) (a : List (List ℕ)) → Prime p → NoInverse p n a
     → (X : Matrix (modulo p)) → Within (modulo p) n X → ¬ (product (modulo p) n (matrix p n a) X ≡ identity (modulo p) n)
 no_right_inverse p n a P h X w e = h X (inverse_of_right (modulo p) (prime_domain p P) n (matrix p n a) X (matrix_within p n a) w e).left
 
@@ -46,27 +51,30 @@ pub record Eliminating (p n j : ℕ) (a m s : List (List ℕ)) : Type 0 where
 pub eliminating_start : (p n : ℕ) (a e : List (List ℕ)) → 1 < p → IsIdentity n e → Eliminating p n 0 a a e
 eliminating_start p n a e h i = record { field = i.field p h; state = rw (i.is p) (eliminated_start (modulo p) n (matrix p n a) (matrix_within p n a)) }
 
--- the first row from j on whose entry in column j is not zero, or n
+-- the first row from j on whose entry in column j is not zero
 pub record Pivot (p n j : ℕ) (m : List (List ℕ)) (q : ℕ) : Type 0 where
   pub low : j ≤ q
-  pub high : q ≤ n
+  pub high : q < n
   pub zeros : (i : ℕ) → j ≤ i → i < q → cell m i j % p ≡ 0
-  pub hit : q < n → cell m q j % p ≢ 0
+  pub hit : cell m q j % p ≢ 0
 
-pub eliminating_none : (p n j : ℕ) (a m s : List (List ℕ)) (q : ℕ) → Prime p → j < n → n ≤ q → Pivot p n j m q → Eliminating p n j a m s → Inverted p n a zero_rows
-eliminating_none p n j a m s q P l g o x = record {
-  field = zero_rows_field p n (positive p P);
-  answer = inr (
-    matrix_of_zeros p n zero_rows (λ i h b c. zero_rows_at i h),
-    eliminated_none (modulo p) n j (matrix p n a) (matrix p n m) (matrix p n s) (one_is_not_zero p P) l (matrix_within p n a)
-        (λ i b c. matrix_inside p n m i j c l ∙ zero_residue p _ (positive p P) (o.zeros i b (omega arith))) x.state,
-  );
-}
+-- that row, if there is one
+abbrev pub Pivoted : ℕ → ℕ → ℕ → List (List ℕ) → Option ℕ → Type 0
+Pivoted p n j m r = MatchOption r ((i : ℕ) → j ≤ i → i < n → cell m i j % p ≡ 0) (Pivot p n j m)
 
-pub eliminating_end : (p n j : ℕ) (a m s : List (List ℕ)) → j ≤ n → n ≤ j → Eliminating p n j a m s → Inverted p n a s
+pub pivoted : (p n j : ℕ) (m : List (List ℕ)) (r : Option ℕ) → MatchOption r ((i : ℕ) → j ≤ i → i < n → cell m i j % p ≡ 0)
+    (λ q. (j ≤ q) × (q < n) × (cell m q j % p ≢ 0) × ((i : ℕ) → j ≤ i → i < q → cell m i j % p ≡ 0)) → Pivoted p n j m r
+pivoted p n j m None h = h
+pivoted p n j m (Some q) h = record { low = h.0; high = h.1; zeros = h.3; hit = h.2 }
+
+pub eliminating_none : (p n j : ℕ) (a m s : List (List ℕ)) → Prime p → j < n → Pivoted p n j m None → Eliminating p n j a m s → Inverted p n a None
+eliminating_none p n j a m s P l o x = eliminated_none (modulo p) n j (matrix p n a) (matrix p n m) (matrix p n s) (one_is_not_zero p P) l (matrix_within p n a)
+    (λ i b c. matrix_inside p n m i j c l ∙ zero_residue p _ (positive p P) (o i b c)) x.state
+
+pub eliminating_end : (p n j : ℕ) (a m s : List (List ℕ)) → j ≤ n → n ≤ j → Eliminating p n j a m s → Inverted p n a (Some s)
 eliminating_end p n j a m s l g x = record {
   field = x.field;
-  answer = inl (eliminated_end (modulo p) n (matrix p n a) (matrix p n m) (matrix p n s) (matrix_within p n a) (matrix_within p n m) (rw (le_antisymm l g) at x.state));
+  inverse = eliminated_end (modulo p) n (matrix p n a) (matrix p n m) (matrix p n s) (matrix_within p n a) (matrix_within p n m) (rw (le_antisymm l g) at x.state);
 }
 
 -- before a multiple of row `from` makes the entry (i, j) that of E: d is the reciprocal of the entry (from, j), and only row j is ever multiplied
@@ -84,9 +92,6 @@ pub record PlaceReady (p n i j from d : ℕ) (m : List (List ℕ)) : Type 0 wher
 pub record PlacedIn (p n i j : ℕ) (m s u v : List (List ℕ)) : Type 0 where
   pub placed : Placed (modulo p) n i j (matrix p n m) (matrix p n u)
   pub keeps : (a : List (List ℕ)) → Eliminating p n j a m s → Eliminating p n j a u v
-
-pub remainder_upto : (x p : ℕ) → 0 < p → x % p ≤ p
-remainder_upto x p h = let l : x % p < p = mod-lt x h in omega arith
 
 module _ (p n i j from d : ℕ) (m : List (List ℕ)) (h : PlaceReady p n i j from d m) where
   open modulo p use {plus as ◌⊕◌, times as ◌⊗◌, minus as ⊖◌, zero as 𝟘, one as 𝟙}
@@ -156,9 +161,7 @@ clearing_turn p n j i m s u v y z x q = record {
 pub record PivotReady (p n j q : ℕ) (m : List (List ℕ)) : Type 0 where
   pub prime : T (prime p)
   pub upto : n ≤ order_limit
-  pub low : j ≤ q
-  pub high : q < n
-  pub hit : cell m q j % p ≢ 0
+  pub pivot : Pivot p n j m q
 
 pub pivot_ready : (p n j q d : ℕ) (m : List (List ℕ)) → PivotReady p n j q m → InverseOf p (cell m q j % p) d → PlaceReady p n j j q d m
 pivot_ready p n j q d m h r =
@@ -166,14 +169,14 @@ pivot_ready p n j q d m h r =
     record {
       upto = h.upto;
       modulus = positive;
-      row = omega (arith, h.low, h.high);
-      column = omega (arith, h.low, h.high);
-      source = h.high;
-      reached = h.low;
+      row = omega (arith, h.pivot.low, h.pivot.high);
+      column = omega (arith, h.pivot.low, h.pivot.high);
+      source = h.pivot.high;
+      reached = h.pivot.low;
       own = λ e. refl;
       reciprocal =
-          ap (λ x. (modulo p).times x (residue p d)) (matrix_inside p n m q j h.high (omega (arith, h.low, h.high)) ∙ sym (residue_remainder p _ positive))
-          ∙ sym (residue_times p _ d) ∙ sym (residue_remainder p _ positive) ∙ ap (residue p) (r.of_other (omega (arith, h.hit))) ∙ residue_one p;
+          ap (λ x. (modulo p).times x (residue p d)) (matrix_inside p n m q j h.pivot.high (omega (arith, h.pivot.low, h.pivot.high)) ∙ sym (residue_remainder p _ positive))
+          ∙ sym (residue_times p _ d) ∙ sym (residue_remainder p _ positive) ∙ ap (residue p) (r.of_other (omega (arith, h.pivot.hit))) ∙ residue_one p;
     }
 
 -- column j is that of E

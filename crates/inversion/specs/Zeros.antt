@@ -1,13 +1,13 @@
--- The test for the zero matrix, by which the caller of an inversion tells whether there is an inverse.
-use Rattle.std.specs.Prelude.{◌≡◌, Bool, true, false, List, [], ℕ, ◌<◌, T, eqb, get_or}
-use Rattle.std.proofs.Common.{sym, ◌∙◌, ap, subst, ⊎_elim, eqb→eq}
+-- The test for the zero matrix, which no inverse is.
+use Rattle.std.specs.Prelude.{◌≡◌, Bool, Some, List, [], ℕ, ◌<◌, T, eqb, get_or}
+use Rattle.std.proofs.Common.{sym, ◌∙◌, ap, eqb→eq}
 use Rattle.forms.specs.Numbers.{every}
 use Rattle.forms.specs.Tests.{every_at, every_holds, equal_holds}
 use Rattle.algebra.specs.Ring.{zero_times}
 use Rattle.algebra.specs.Sum.{sum_of_zeros, delta_same}
-use Rattle.algebra.specs.Matrix.{Matrix, product, product_at, identity, identity_inside, matrix_zero}
+use Rattle.algebra.specs.Matrix.{Matrix, product_at, identity_inside, matrix_zero}
 use Rattle.algebra.specs.Inverse.{Inverse}
-use Rattle.algebra.specs.Modular.{modulo, residue_zero, residue_injective, Prime, positive, one_is_not_zero}
+use Rattle.algebra.specs.Modular.{modulo, residue_zero, residue_injective, Prime, one_is_not_zero}
 use Rattle.matrices.specs.Matrices.{cell, matrix, matrix_inside, matrix_of_zeros, FieldMatrix}
 use Rattle.inversion.specs.Inversion.{Inverted}
 
@@ -22,12 +22,13 @@ zero_lines n m k = every k (λ i. zero_entries n (get_or m i []))
 unfoldable pub is_zero : ℕ → List (List ℕ) → Bool
 is_zero n m = zero_lines n m n
 
-test_of_zero : (p n : ℕ) (m : List (List ℕ)) → 0 < p → FieldMatrix p n m → matrix p n m ≡ matrix_zero (modulo p) → T (is_zero n m)
+-- on a field matrix the test holds exactly where it is zero
+pub test_of_zero : (p n : ℕ) (m : List (List ℕ)) → 0 < p → FieldMatrix p n m → matrix p n m ≡ matrix_zero (modulo p) → T (is_zero n m)
 unfolding is_zero matrix_zero
 test_of_zero p n m h f e = every_holds n _ (λ i l. every_holds n _ (λ j g. equal_holds _ 0 (residue_injective p (cell m i j) 0 (f.small i j l g) h
     (sym (matrix_inside p n m i j l g) ∙ ap (λ (M : Matrix (modulo p)). M i j) e ∙ sym (residue_zero p)))))
 
-zero_of_test : (p n : ℕ) (m : List (List ℕ)) → T (is_zero n m) → matrix p n m ≡ matrix_zero (modulo p)
+pub zero_of_test : (p n : ℕ) (m : List (List ℕ)) → T (is_zero n m) → matrix p n m ≡ matrix_zero (modulo p)
 unfolding is_zero
 zero_of_test p n m t = matrix_of_zeros p n m (λ i j l g. eqb→eq _ 0 (every_at n _ (every_at n (λ i. zero_entries n (get_or m i [])) t i l) j g))
 
@@ -37,10 +38,6 @@ inverse_is_not_zero p n A B P l i z = one_is_not_zero p P (
     sym (delta_same (modulo p) 0) ∙ sym (identity_inside (modulo p) n 0 0 l) ∙ sym (ap (λ (M : Matrix (modulo p)). M 0 0) i.left) ∙ product_at (modulo p) n B A 0 0
     ∙ sum_of_zeros (modulo p) _ n (λ k g. ap (λ (M : Matrix (modulo p)). (modulo p).times (M 0 k) (A k 0)) z ∙ zero_times (modulo p) (A k 0)))
 
--- an answer that is not zero is the inverse
-pub nonzero_is_inverse : (p n : ℕ) (a r : List (List ℕ)) → Prime p → Inverted p n a r → is_zero n r ≡ false → Inverse (modulo p) n (matrix p n a) (matrix p n r)
-nonzero_is_inverse p n a r P x e = ⊎_elim (λ i. i) (λ z. absurd (subst T e (test_of_zero p n r (positive p P) x.field z.0))) x.answer
-
--- an answer that is zero says that there is none
-pub zero_is_none : (p n : ℕ) (a r : List (List ℕ)) → Prime p → 0 < n → Inverted p n a r → is_zero n r ≡ true → (X : Matrix (modulo p)) → ¬ (product (modulo p) n X (matrix p n a) ≡ identity (modulo p) n)
-zero_is_none p n a r P l x e = ⊎_elim (λ i. absurd (inverse_is_not_zero p n (matrix p n a) (matrix p n r) P l i (zero_of_test p n r (subst T (sym e) tt)))) (λ z. z.1) x.answer
+-- no inverse is zero
+pub inverted_not_zero : (p n : ℕ) (a r : List (List ℕ)) → Prime p → 0 < n → Inverted p n a (Some r) → ¬ T (is_zero n r)
+inverted_not_zero p n a r P l x t = inverse_is_not_zero p n _ _ P l x.inverse (zero_of_test p n r t)

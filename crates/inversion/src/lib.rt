@@ -1,11 +1,11 @@
 // The inverse of a field matrix, by elimination with row operations, and the test that tells where there is none.
 #![tactic(auto)]
 
-ghost use Rattle.std.specs.Prelude.{◌≡◌, [], ◌+◌, ◌%◌, ◌≤◌, ◌<◌, T, get_or};
+ghost use Rattle.std.specs.Prelude.{◌≡◌, ◌≤◌, ◌<◌, T};
 ghost use Rattle.forms.specs.Numbers.{prime, order_limit};
 ghost use Rattle.matrices.specs.Rows.{plus_row};
 ghost use Rattle.inversion.specs.RowAddition.{RowAdded};
-ghost use Rattle.inversion.specs.Inversion.{PlaceReady, PlacedIn, Pivot, PivotReady, Cleared, Inverted};
+ghost use Rattle.inversion.specs.Inversion.{PlaceReady, PlacedIn, Pivoted, PivotReady, Cleared, Inverted};
 ghost use Rattle.inversion.specs.Zeros.{zero_entries, is_zero};
 
 use forms::ORDER;
@@ -13,7 +13,11 @@ use matrices::{Mat, Row, identity, unit_row};
 use residues::residue::{plus_multiple, reciprocal_of};
 
 // M and S, with S A = M.
-type Pair = [Mat; 2];
+#[derive(Clone, Copy)]
+struct Pair {
+    m: Mat,
+    s: Mat,
+}
 
 // Row x plus k times row y.
 pub fn plus_row(x: Row, k: u8, y: Row, n: usize, p: u8) -> Row
@@ -21,10 +25,8 @@ pub fn plus_row(x: Row, k: u8, y: Row, n: usize, p: u8) -> Row
     ensures { result ≡ plus_row p n x k y }
 {
     let mut r = [0u8; ORDER];
-    let mut j = 0;
-    while j < n {
+    for j in 0..n {
         r[j] = plus_multiple(x[j], k, y[j], p);
-        j = j + 1;
     }
     r
 }
@@ -40,82 +42,63 @@ fn add_row(m: Mat, i: usize, k: u8, from: usize, n: usize, p: u8) -> Mat
 }
 
 // The entry (i, j) of M becomes that of E, by a multiple of row `from`, where d is the reciprocal of the entry (from, j).
-fn place(s: Pair, i: usize, j: usize, from: usize, d: u8, n: usize, p: u8) -> Pair
-    requires { PlaceReady p n i j from d (get_or s 0 []) }
-    ensures { PlacedIn p n i j (get_or s 0 []) (get_or s 1 []) (get_or result 0 []) (get_or result 1 []) }
+fn place(pair: Pair, i: usize, j: usize, from: usize, d: u8, n: usize, p: u8) -> Pair
+    requires { PlaceReady p n i j from d pair.m }
+    ensures { PlacedIn p n i j pair.m pair.s result.m result.s }
 {
     let e = unit_row(j);
-    let x = s[0][i][j] % p;
+    let x = pair.m[i][j] % p;
     let y = plus_multiple(p - x, 1, e[i], p);
     let k = plus_multiple(0, y, d, p);
-    let m = add_row(s[0], i, k, from, n, p);
-    let t = add_row(s[1], i, k, from, n, p);
-    [m, t]
+    let m = add_row(pair.m, i, k, from, n, p);
+    let s = add_row(pair.s, i, k, from, n, p);
+    Pair { m, s }
 }
 
-// The first row from j on with a non-zero entry in column j, or n.
-fn pivot(m: Mat, j: usize, n: usize, p: u8) -> usize
+// The first row from j on with a non-zero entry in column j.
+fn pivot(m: Mat, j: usize, n: usize, p: u8) -> Option<usize>
     requires { (n ≤ order_limit) × (j < n) × (0 < p) }
-    ensures { Pivot p n j m result }
+    ensures { Pivoted p n j m result }
 {
-    let mut i = j;
-    while i < n {
-        let x = m[i][j];
-        if x % p != 0 {
-            return i;
-        }
-        i = i + 1;
-    }
-    n
+    (j..n).find(|i| m[*i][j] % p != 0)
 }
 
 // Column j becomes that of E, from the pivot in row q.
-fn clear(s: Pair, j: usize, q: usize, n: usize, p: u8) -> Pair
-    requires { PivotReady p n j q (get_or s 0 []) }
-    ensures { Cleared p n j (get_or s 0 []) (get_or s 1 []) (get_or result 0 []) (get_or result 1 []) }
+fn clear(pair: Pair, j: usize, q: usize, n: usize, p: u8) -> Pair
+    requires { PivotReady p n j q pair.m }
+    ensures { Cleared p n j pair.m pair.s result.m result.s }
 {
-    let d = reciprocal_of(s[0][q][j] % p, p);
-    let mut t = place(s, j, j, q, d, n, p);
-    let mut i = 0;
-    while i < n {
-        let x = place(t, i, j, j, 1, n, p);
-        t = x;
-        i = i + 1;
+    let d = reciprocal_of(pair.m[q][j] % p, p);
+    let mut cleared = place(pair, j, j, q, d, n, p);
+    for i in 0..n {
+        cleared = place(cleared, i, j, j, 1, n, p);
     }
-    t
+    cleared
 }
 
-// The inverse of a, or zero where a has none.
-pub fn inverse(a: Mat, n: usize, p: u8) -> Mat
+// The inverse of a, if it has one.
+pub fn inverse(a: Mat, n: usize, p: u8) -> Option<Mat>
     requires { T (prime p) × (n ≤ order_limit) }
     ensures { Inverted p n a result }
 {
-    let mut s = [a, identity(n)];
-    let mut j = 0;
-    while j < n {
-        let q = pivot(s[0], j, n, p);
-        if n <= q {
-            return [[0u8; ORDER]; ORDER];
-        }
-        let x = clear(s, j, q, n, p);
-        s = x;
-        j = j + 1;
+    let mut pair = Pair {
+        m: a,
+        s: identity(n),
+    };
+    for j in 0..n {
+        let Some(q) = pivot(pair.m, j, n, p) else {
+            return None;
+        };
+        pair = clear(pair, j, q, n, p);
     }
-    s[1]
+    Some(pair.s)
 }
 
 fn is_zero_row(v: Row, n: usize) -> bool
     requires { n ≤ order_limit }
     ensures { result ≡ zero_entries n v }
 {
-    let mut j = 0;
-    while j < n {
-        if v[j] != 0 {
-            return false;
-        }
-        j = j + 1;
-    }
-    true
+    v[..n].iter().all(|x| *x == 0)
 }
 
 // Whether m is zero, which no inverse is.
@@ -123,12 +106,5 @@ pub fn is_zero(m: Mat, n: usize) -> bool
     requires { n ≤ order_limit }
     ensures { result ≡ is_zero n m }
 {
-    let mut i = 0;
-    while i < n {
-        if !is_zero_row(m[i], n) {
-            return false;
-        }
-        i = i + 1;
-    }
-    true
+    m[..n].iter().all(|v| is_zero_row(*v, n))
 }

@@ -1,5 +1,7 @@
 -- Loops that fill an array from the front, that add up and that test each index: what holds after n turns, at every length and kind of entry.
-use Rattle.std.specs.Prelude.{◌≡◌, Bool, true, false, length, set}
+use Rattle.std.specs.Prelude.{◌≡◌, Bool, true, false, length, set, take}
+use Rattle.std.specs.List.{list_all}
+use Rattle.std.proofs.lemmas.List.Folds.{list_all_more}
 use Rattle.std.proofs.Math.Path.{refl, ap}
 use Rattle.std.proofs.Common.{sym, ◌∙◌, add-one, le_antisymm, arith, length-append}
 use Rattle.std.proofs.Math.Bool.{and-false}
@@ -79,3 +81,9 @@ every_fails (suc n) t i l e = elim (ℕ_discrete i n) [
   | yes o ↦ rw ((sym (ap t o) ∙ e), and-false)
   | no o ↦ rw (every_fails n t i (omega arith) e)
 ]
+
+-- a test of the first n elements
+pub every_taken : {A : Type 0} (test : A → Bool) (d : A) (l : List A) (n : ℕ) → n ≤ length l → list_all test (take n l) ≡ every n (λ i. test (get_or l i d))
+unfolding every
+every_taken test d l zero h = refl
+every_taken test d l (suc n) h = rw (← add-one n, list_all_more test l n d (omega arith), every_taken test d l n (omega arith))

@@ -18,7 +18,7 @@ pub type Mat = [Row; ORDER];
 pub fn wide(x: u8) -> u32
     ensures { (result ≡ x) × (result ≤ 255) }
 {
-    x as u32
+    u32::from(x)
 }
 
 // Row v times column j of b.
@@ -26,15 +26,11 @@ fn inner_product(v: Row, b: &Mat, j: usize, n: usize, p: u8) -> u8
     requires { (n ≤ order_limit) × (j < order_limit) × (0 < p) }
     ensures { result ≡ total n (λ k. get_or v k 0 * cell b.now k j) % p }
 {
-    let mut sum: u32 = 0;
-    let mut k = 0;
-    while k < n {
-        let x = wide(v[k]);
-        let y = wide(b[k][j]);
-        sum = sum + x * y;
-        k = k + 1;
+    let mut sum = 0;
+    for k in 0..n {
+        sum += u32::from(v[k]) * u32::from(b[k][j]);
     }
-    (sum % (p as u32)) as u8
+    (sum % u32::from(p)) as u8
 }
 
 // Row v times b.
@@ -43,10 +39,8 @@ fn product_row(v: Row, b: &Mat, n: usize, p: u8) -> Row
     ensures { result ≡ product_row p n v b.now }
 {
     let mut r = [0u8; ORDER];
-    let mut j = 0;
-    while j < n {
+    for j in 0..n {
         r[j] = inner_product(v, b, j, n, p);
-        j = j + 1;
     }
     r
 }
@@ -57,10 +51,8 @@ pub fn product(a: Mat, b: Mat, n: usize, p: u8) -> Mat
     ensures { Multiplied p n a b result }
 {
     let mut r = [[0u8; ORDER]; ORDER];
-    let mut i = 0;
-    while i < n {
+    for i in 0..n {
         r[i] = product_row(a[i], &b, n, p);
-        i = i + 1;
     }
     r
 }
@@ -81,10 +73,8 @@ pub fn identity(n: usize) -> Mat
     ensures { IsIdentity n result }
 {
     let mut e = [[0u8; ORDER]; ORDER];
-    let mut i = 0;
-    while i < n {
-        e[i][i] = 1;
-        i = i + 1;
+    for i in 0..n {
+        e[i] = unit_row(i);
     }
     e
 }

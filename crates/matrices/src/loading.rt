@@ -22,10 +22,8 @@ fn field_row(bytes: &[u8], i: usize, n: usize) -> Row
     ensures { result ≡ filled n (λ j. at bytes.now (i * n + j)) zero_row }
 {
     let mut row = [0u8; ORDER];
-    let mut j = 0;
-    while j < n {
+    for j in 0..n {
         row[j] = field_entry(bytes, i, j, n);
-        j = j + 1;
     }
     row
 }
@@ -36,10 +34,8 @@ pub fn field_matrix(bytes: &[u8], n: usize) -> Mat
     ensures { result ≡ loaded n bytes.now }
 {
     let mut m = [[0u8; ORDER]; ORDER];
-    let mut i = 0;
-    while i < n {
+    for i in 0..n {
         m[i] = field_row(bytes, i, n);
-        i = i + 1;
     }
     m
 }

@@ -1,10 +1,6 @@
 -- After j turns j columns are those of E.
-use Rattle.std.proofs.Common.{◌≤◌, ◌-◌, [], get_or}
 use Rattle.inversion.specs.Inversion.{Eliminating}
 use Rattle.inversion.proofs.inverse.Given as goal
 
 abbrev pub invariant-loop-j : goal.invariant-loop-j
-invariant-loop-j l = (l.j ≤ l.n) × Eliminating l.p l.n l.j (get_or l.initial.s 0 []) (get_or l.s 0 []) (get_or l.s 1 [])
-
-abbrev pub decreases-loop-j : goal.decreases-loop-j
-decreases-loop-j l = l.n - l.j
+invariant-loop-j l = Eliminating l.p l.n l.j l.initial.pair.m l.pair.m l.pair.s

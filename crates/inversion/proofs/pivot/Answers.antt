@@ -1,16 +1,11 @@
--- The entries passed are zero.
-use Rattle.std.proofs.Common.{arith, rules}
-use native.Mathlib.Decide.{ℕ_discrete}
+-- The search yields the first entry that is not zero.
+use Rattle.std.proofs.Common.{◌%◌, ◌≡◌, ◌≢◌, rules, tests}
+use Rattle.std.proofs.lemmas.Iterator.{first_from_Range}
+use Rattle.matrices.specs.Matrices.{cell}
+use Rattle.inversion.specs.Inversion.{pivoted}
 use Rattle.inversion.proofs.pivot.Goals as goal
 
-pub loop-i-init : goal.loop-i-init
-loop-i-init c = (search rules, search rules, λ t a b. absurd (omega arith))
-
-pub returns-then-x-p-ne0 : goal.returns-then-x-p-ne0
-returns-then-x-p-ne0 c = record { low = search rules; high = search rules; zeros = c.loop-i.invariant.2; hit = λ l. c.if-x-p-ne0.true }
-
-pub loop-i-preserved : goal.loop-i-preserved
-loop-i-preserved c = (search rules, search rules, λ t a b. elim (ℕ_discrete t c.loop-i.i) [ yes e ↦ rw e c.if-x-p-ne0.false | no o ↦ c.loop-i.invariant.2 t a (omega arith) ])
-
 pub returns : goal.returns
-returns c = record { low = search rules; high = search rules; zeros = λ t a b. c.loop-i.invariant.2 t a (omega arith); hit = λ l. absurd (omega arith) }
+returns c =
+    let a = c.args in
+    pivoted _ _ _ _ _ (first_from_Range _ _ _ _ (λ i. cell a.m i a.j % a.p ≢ 0) (λ i. cell a.m i a.j % a.p ≡ 0) c.find.ensures.ran (λ x q k. search (rules, tests)) (λ x q k. search (rules, tests)))

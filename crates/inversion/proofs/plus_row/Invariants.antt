@@ -1,11 +1,8 @@
 -- The row is filled from the front.
-use Rattle.std.proofs.Common.{◌≤◌, ◌-◌, ◌+◌, ◌*◌, ◌%◌, ◌≡◌, get_or}
+use Rattle.std.proofs.Common.{◌+◌, ◌*◌, ◌%◌, ◌≡◌, get_or}
 use Rattle.matrices.specs.Filling.{filled}
 use Rattle.matrices.specs.Matrices.{zero_row}
 use Rattle.inversion.proofs.plus_row.Given as goal
 
 abbrev pub invariant-loop-j : goal.invariant-loop-j
-invariant-loop-j l = (l.j ≤ l.n) × (l.r ≡ filled l.j (λ j. (get_or l.x j 0 + l.k * get_or l.y j 0) % l.p) zero_row)
-
-abbrev pub decreases-loop-j : goal.decreases-loop-j
-decreases-loop-j l = l.n - l.j
+invariant-loop-j l = l.r ≡ filled l.j (λ j. (get_or l.x j 0 + l.k * get_or l.y j 0) % l.p) zero_row

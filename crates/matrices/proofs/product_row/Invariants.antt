@@ -1,12 +1,9 @@
 -- The row is filled from the front.
-use Rattle.std.proofs.Common.{◌≤◌, ◌-◌, ◌*◌, ◌%◌, ◌≡◌, get_or}
+use Rattle.std.proofs.Common.{◌*◌, ◌%◌, ◌≡◌, get_or}
 use Rattle.forms.specs.Numbers.{total}
 use Rattle.matrices.specs.Filling.{filled}
 use Rattle.matrices.specs.Matrices.{cell, zero_row}
 use Rattle.matrices.proofs.product_row.Given as goal
 
 abbrev pub invariant-loop-j : goal.invariant-loop-j
-invariant-loop-j l = (l.j ≤ l.n) × (l.r ≡ filled l.j (λ j. total l.n (λ k. get_or l.v k 0 * cell l.b k j) % l.p) zero_row)
-
-abbrev pub decreases-loop-j : goal.decreases-loop-j
-decreases-loop-j l = l.n - l.j
+invariant-loop-j l = l.r ≡ filled l.j (λ j. total l.n (λ k. get_or l.v k 0 * cell l.b k j) % l.p) zero_row

@@ -1,12 +1,9 @@
 -- The rows are filled from the front.
-use Rattle.std.proofs.Common.{◌≡◌, ◌+◌, ◌*◌, ◌-◌, ◌≤◌}
+use Rattle.std.proofs.Common.{◌≡◌, ◌+◌, ◌*◌}
 use Rattle.forms.specs.Numbers.{at}
 use Rattle.matrices.specs.Filling.{filled}
 use Rattle.matrices.specs.Matrices.{zero_row, zero_rows}
 use Rattle.matrices.proofs.loading.field_matrix.Given as goal
 
 abbrev pub invariant-loop-i : goal.invariant-loop-i
-invariant-loop-i l = (l.i ≤ l.n) × (l.m ≡ filled l.i (λ i. filled l.n (λ j. at l.bytes (i * l.n + j)) zero_row) zero_rows)
-
-abbrev pub decreases-loop-i : goal.decreases-loop-i
-decreases-loop-i l = l.n - l.i
+invariant-loop-i l = l.m ≡ filled l.i (λ i. filled l.n (λ j. at l.bytes (i * l.n + j)) zero_row) zero_rows

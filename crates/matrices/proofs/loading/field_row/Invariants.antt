@@ -1,12 +1,9 @@
 -- The row is filled from the front.
-use Rattle.std.proofs.Common.{◌≡◌, ◌+◌, ◌*◌, ◌-◌, ◌≤◌}
+use Rattle.std.proofs.Common.{◌≡◌, ◌+◌, ◌*◌}
 use Rattle.forms.specs.Numbers.{at}
 use Rattle.matrices.specs.Filling.{filled}
 use Rattle.matrices.specs.Matrices.{zero_row}
 use Rattle.matrices.proofs.loading.field_row.Given as goal
 
 abbrev pub invariant-loop-j : goal.invariant-loop-j
-invariant-loop-j l = (l.j ≤ l.n) × (l.row ≡ filled l.j (λ j. at l.bytes (l.i * l.n + j)) zero_row)
-
-abbrev pub decreases-loop-j : goal.decreases-loop-j
-decreases-loop-j l = l.n - l.j
+invariant-loop-j l = l.row ≡ filled l.j (λ j. at l.bytes (l.i * l.n + j)) zero_row
