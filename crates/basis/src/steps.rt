@@ -10,7 +10,7 @@ ghost use Rattle.basis.specs.Shear.{OnColumns, OnRows};
 ghost use Rattle.basis.specs.Replace.{added, Replaced};
 ghost use Rattle.basis.specs.State.{frame, Fields, Given};
 ghost use Rattle.basis.specs.Steps.{entry_of, Combination};
-ghost use Rattle.basis.specs.Searches.{column_of, FirstNonzero};
+ghost use Rattle.basis.specs.Searches.{column_of, Found};
 
 use crate::remainders::{factor, remainder};
 use forms::ORDER;
@@ -166,17 +166,10 @@ pub fn column(b: &Mat, j: usize, n: usize) -> Row
     r
 }
 
-// The first place from `from` on, below k, where x is not zero; k if there is none.
-pub fn first_nonzero(x: Row, from: usize, k: usize) -> usize
+// The first place from `from` on, below k, where x is not zero.
+pub fn first_nonzero(x: Row, from: usize, k: usize) -> Option<usize>
     requires { (from ≤ k) × (k ≤ order_limit) }
-    ensures { FirstNonzero (λ i. get_or x i 0) from k result }
+    ensures { Found (λ i. get_or x i 0) from k result }
 {
-    let mut i = from;
-    while i < k {
-        if x[i] != 0 {
-            return i;
-        }
-        i = i + 1;
-    }
-    k
+    (from..k).find(|i| x[*i] != 0)
 }
