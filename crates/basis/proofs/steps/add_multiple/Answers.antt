@@ -13,7 +13,7 @@ pub overflow_add-a : goal.overflow_add-a
 overflow_add-a c = omega (arith, (mul-le-mul c.wide-b.ensures.1 c.wide-c.ensures.1), c.wide-a.ensures.1)
 
 pub remainder-requires : goal.remainder-requires
-remainder-requires c = (c.requires.0, omega (arith, (mul-le-mul c.wide-b.ensures.1 c.wide-c.ensures.1), c.wide-a.ensures.1), c.requires.1)
+remainder-requires c = omega (arith, (mul-le-mul c.wide-b.ensures.1 c.wide-c.ensures.1), c.wide-a.ensures.1)
 
 pub loop-j-preserved : goal.loop-j-preserved
 loop-j-preserved c = (search rules, fill_turn _ _ _ (search rules) c.loop-j.invariant.1 (c.remainder.ensures ∙ rw (c.wide-b.ensures.0, c.wide-a.ensures.0, c.wide-c.ensures.0)))

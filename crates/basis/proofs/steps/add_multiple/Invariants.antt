@@ -6,7 +6,7 @@ use Rattle.matrices.specs.Matrices.{zero_row}
 use Rattle.basis.proofs.steps.add_multiple.Given as goal
 
 abbrev pub invariant-loop-j : goal.invariant-loop-j
-invariant-loop-j l = (l.j ≤ order_limit) × (l.r ≡ filled l.j (λ j. (get_or l.x j 0 + l.k * get_or l.y j 0) % l.p) zero_row)
+invariant-loop-j l = (l.j ≤ order_limit) × (l.r ≡ filled l.j (λ j. (get_or l.x j 0 + l.k * get_or l.y j 0) % l.m.p) zero_row)
 
 abbrev pub decreases-loop-j : goal.decreases-loop-j
 decreases-loop-j l = order_limit - l.j

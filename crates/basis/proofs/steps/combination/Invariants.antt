@@ -4,7 +4,7 @@ use Rattle.basis.specs.Steps.{Combining}
 use Rattle.basis.proofs.steps.combination.Given as goal
 
 abbrev pub invariant-loop-i : goal.invariant-loop-i
-invariant-loop-i l = (l.i ≤ l.n) × Combining l.p l.n l.i l.v l.m l.r
+invariant-loop-i l = (l.i ≤ l.n) × Combining l.m.p l.n l.i l.v l.x l.r
 
 abbrev pub decreases-loop-i : goal.decreases-loop-i
 decreases-loop-i l = l.n - l.i

@@ -18,7 +18,7 @@ pub loop-k-preserved : goal.loop-k-preserved
 loop-k-preserved c = (search rules, omega (arith, (mul-le-mul c.wide-a.ensures.1 c.wide-b.ensures.1)), rw (total_turn, ← c.loop-k.invariant.2, c.wide-a.ensures.0, c.wide-b.ensures.0))
 
 pub remainder-requires : goal.remainder-requires
-remainder-requires c = (c.requires.0, omega (arith, c.loop-k.invariant.1), c.requires.1)
+remainder-requires c = omega (arith, c.loop-k.invariant.1)
 
 pub returns : goal.returns
 returns c = c.remainder.ensures ∙ rw (c.loop-k.invariant.2, le_antisymm c.loop-k.invariant.0 c.loop-k-test.false)

@@ -21,4 +21,4 @@ loop-i-preserved c =
 pub returns : goal.returns
 returns c =
     let long : length c.args.s ≡ 3 = search rules in
-    columns_set _ _ c.args.s _ (search rules) (search rules) c.requires.3 _ _ (search rules) (squares c.args.s _ long c.well_formed.0.1.1) (overwriting_end columns_pair _ _ c.args.s c.loop-i.invariant.0 c.loop-i-test.false c.loop-i.invariant.1)
+    columns_set _ _ c.args.s _ (search rules) (search rules) c.requires.2 _ _ (search rules) (squares c.args.s _ long c.well_formed.0.1.1) (overwriting_end columns_pair _ _ c.args.s c.loop-i.invariant.0 c.loop-i-test.false c.loop-i.invariant.1)
