@@ -12,6 +12,7 @@ pub struct Modulus {
 }
 
 impl Modulus {
+    // The modulus p.
     pub fn new(p: u8) -> Modulus
         requires { 0 < p }
         ensures { result.p ≡ p }

@@ -13,7 +13,7 @@ ghost use Rattle.basis.specs.Searches.{column_of, Found};
 
 use crate::remainders::Modulus;
 use forms::ORDER;
-use matrices::{Mat, Row, unit_row, wide};
+use matrices::{Mat, Row, unit_row};
 use residues::residue::reciprocal_of;
 
 // B, T and the inverse of T, with A T = T B.
@@ -23,13 +23,9 @@ pub type State = [Mat; 3];
 pub fn inner(x: Row, y: Row, m: Modulus) -> u8
     ensures { result ≡ entry_of m.p order_limit x y }
 {
-    let mut sum: u32 = 0;
-    let mut k = 0;
-    while k < ORDER {
-        let a = wide(x[k]);
-        let b = wide(y[k]);
-        sum = sum + a * b;
-        k = k + 1;
+    let mut sum = 0;
+    for k in 0..ORDER {
+        sum += u32::from(x[k]) * u32::from(y[k]);
     }
     m.remainder(sum)
 }
@@ -38,14 +34,9 @@ pub fn inner(x: Row, y: Row, m: Modulus) -> u8
 pub fn add_multiple(x: Row, k: u8, y: Row, m: Modulus) -> Row
     ensures { result ≡ plus_row m.p order_limit x k y }
 {
-    let b = wide(k);
-    let mut r = [0u8; ORDER];
-    let mut j = 0;
-    while j < ORDER {
-        let a = wide(x[j]);
-        let c = wide(y[j]);
-        r[j] = m.remainder(a + b * c);
-        j = j + 1;
+    let mut r = [0; ORDER];
+    for j in 0..ORDER {
+        r[j] = m.remainder(u32::from(x[j]) + u32::from(k) * u32::from(y[j]));
     }
     r
 }
@@ -66,24 +57,21 @@ pub fn combination(v: Row, x: Mat, n: usize, m: Modulus) -> Row
     requires { (n ≤ order_limit) × FieldMatrix m.p n x }
     ensures { Combination m.p n v x result }
 {
-    let mut r = [0u8; ORDER];
-    let mut i = 0;
-    while i < n {
+    let mut r = [0; ORDER];
+    for i in 0..n {
         let sum = plus_multiple_row(r, v[i], x[i], m);
         r = sum;
-        i = i + 1;
     }
     r
 }
 
 // x with v at one place.
-pub fn with_entry(x: Row, at: usize, v: u8) -> Row
+pub fn with_entry(mut x: Row, at: usize, v: u8) -> Row
     requires { at < order_limit }
     ensures { result ≡ set x at v }
 {
-    let mut r = x;
-    r[at] = v;
-    r
+    x[at] = v;
+    x
 }
 
 // Column `at` of B and of T becomes B w and T w.
@@ -91,11 +79,9 @@ fn set_columns(mut s: State, at: usize, w: Row, n: usize, m: Modulus) -> State
     requires { (n ≤ order_limit) × (at < n) × Fields m.p n s }
     ensures { Fields m.p n result × OnColumns (modulo m.p) n (added (modulo m.p) at (vector m.p n w)) (delta (modulo m.p) at) (frame m.p n s) (frame m.p n result) }
 {
-    let mut i = 0;
-    while i < n {
+    for i in 0..n {
         s[0][i][at] = inner(s[0][i], w, m);
         s[1][i][at] = inner(s[1][i], w, m);
-        i = i + 1;
     }
     s
 }
@@ -107,13 +93,11 @@ fn add_rows(mut s: State, c: Row, at: usize, n: usize, m: Modulus) -> State
 {
     let x = s[0][at];
     let y = s[2][at];
-    let mut i = 0;
-    while i < n {
+    for i in 0..n {
         if c[i] != 0 {
             s[0][i] = add_multiple(s[0][i], c[i], x, m);
             s[2][i] = add_multiple(s[2][i], c[i], y, m);
         }
-        i = i + 1;
     }
     s
 }
@@ -123,11 +107,9 @@ pub fn add_columns(mut s: State, a: usize, v: Row, n: usize, m: Modulus) -> Stat
     requires { (n ≤ order_limit) × (a < n) × Fields m.p n s × FieldRow m.p n v }
     ensures { Fields m.p n result × OnColumns (modulo m.p) n (delta (modulo m.p) a) (vector m.p n v) (frame m.p n s) (frame m.p n result) }
 {
-    let mut i = 0;
-    while i < n {
+    for i in 0..n {
         s[0][i] = plus_multiple_row(s[0][i], s[0][i][a], v, m);
         s[1][i] = plus_multiple_row(s[1][i], s[1][i][a], v, m);
-        i = i + 1;
     }
     s
 }
@@ -138,7 +120,7 @@ pub fn replace(s: State, at: usize, w: Row, n: usize, m: Modulus) -> State
     ensures { Fields m.p n result × Replaced (modulo m.p) n at (vector m.p n w) (frame m.p n s) (frame m.p n result) }
 {
     let d = reciprocal_of(w[at], m.p);
-    let z = [0u8; ORDER];
+    let z = [0; ORDER];
     let e = unit_row(at);
     let c = add_multiple(add_multiple(z, m.p - d, w, m), d, e, m);
     add_rows(set_columns(s, at, w, n, m), c, at, n, m)
@@ -149,11 +131,9 @@ pub fn column(b: &Mat, j: usize, n: usize) -> Row
     requires { (n ≤ order_limit) × (j < order_limit) }
     ensures { result ≡ column_of n b.now j }
 {
-    let mut r = [0u8; ORDER];
-    let mut i = 0;
-    while i < n {
+    let mut r = [0; ORDER];
+    for i in 0..n {
         r[i] = b[i][j];
-        i = i + 1;
     }
     r
 }
@@ -163,5 +143,5 @@ pub fn first_nonzero(x: Row, from: usize, k: usize) -> Option<usize>
     requires { (from ≤ k) × (k ≤ order_limit) }
     ensures { Found (λ i. get_or x i 0) from k result }
 {
-    (from..k).find(|i| x[*i] != 0)
+    (from..k).find(|&i| x[i] != 0)
 }
