@@ -175,11 +175,8 @@ module _ (p n k m : ℕ) (s c u : State) (g : Given p n k u) (x : Change (modulo
   pub split_ends : r ≤ m → (h : ℕ) × Split (modulo p) n k (frame p n s) h (frame p n u)
   split_ends l = (m, split_of_probed (modulo p) n k m (frame p n s) (frame p n c) y.0 (frame p n u) x y.1 (omega (arith, probed_is)))
 
-  pub split_change : Change (modulo p) n k (frame p n s) (frame p n u)
-  split_change = change_then (modulo p) n k x y.1.change
-
-  pub split_headed : Headed (modulo p) k r (frame p n u)
-  split_headed = subst (λ (q : ℕ). Headed (modulo p) k q (frame p n u)) probed_is y.1.headed
+  pub split_turn : Change (modulo p) n k (frame p n s) (frame p n u) × Headed (modulo p) k r (frame p n u)
+  split_turn = (change_then (modulo p) n k x y.1.change, subst (λ (q : ℕ). Headed (modulo p) k q (frame p n u)) probed_is y.1.headed)
 
 pub chained_reach : (p n k : ℕ) (s c : State) → Given p n k c → (m : ℕ) × Chained (modulo p) n k (frame p n s) m (frame p n c) → (r : ℕ) → Reach k (get_or c 0 []) r → Headed (modulo p) k r (frame p n c)
 chained_reach p n k s c g x r z = let h = chained_headed (modulo p) n k (frame p n s) x.0 (frame p n c) x.1 in
