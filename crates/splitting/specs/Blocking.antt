@@ -150,7 +150,7 @@ probe_ends p n k m j s t kn a b x = probe_end (modulo p) n k m (frame p n s) (fr
 -- nothing is left behind the block, as a test says
 pub settled_already : (p n k m : ℕ) (c : State) → Given p n k c → Headed (modulo p) k m (frame p n c) → NothingBehind m k (get_or c 0 []) → Probing (modulo p) n k m m (frame p n c) (frame p n c)
 settled_already p n k m c g h z = probe_start (modulo p) n k m (frame p n c) h (headed_flat (modulo p) k m (frame p n c) h (λ i t a b l.
-    zero_entry p n (get_or c 0 []) i t (omega (arith, g.fits, h.fits)) (omega (arith, g.fits)) (z i t a b l)))
+    zero_entry p n (get_or c 0 []) i t (omega (arith, g.fits, h.fits)) (omega (arith, g.fits)) (z i a t b l)))
 
 -- a longer block was made, or nothing is left behind the block
 module _ (p n k m : ℕ) (s c : State) (g : Given p n k c) (x : (h : ℕ) × Settled (modulo p) n k m (frame p n s) h (frame p n c)) (r : ℕ) (z : Reach k (get_or c 0 []) r) where

@@ -13,7 +13,7 @@ NothingInRow m k b i = (t : ℕ) → m ≤ t → t < k → cell b i t ≡ 0
 
 -- rows 0 .. m - 1 have nothing in the columns m .. k - 1
 abbrev pub NothingBehind : (m k : ℕ) → Array → Type 0
-NothingBehind m k b = (i t : ℕ) → i < m → m ≤ t → t < k → cell b i t ≡ 0
+NothingBehind m k b = (i : ℕ) → i < m → NothingInRow m k b i
 
 -- the polynomial of the block of m kills e_t
 abbrev pub KillsUnit : (p n m : ℕ) → Array → ℕ → Type 0
