@@ -150,7 +150,7 @@ probe_ends p n k m j s t kn a b x = probe_end (modulo p) n k m (frame p n s) (fr
 -- nothing is left behind the block, as a test says
 pub settled_already : (p n k m : ℕ) (c : State) → Given p n k c → Headed (modulo p) k m (frame p n c) → NothingBehind m k (get_or c 0 []) → Probing (modulo p) n k m m (frame p n c) (frame p n c)
 settled_already p n k m c g h z = probe_start (modulo p) n k m (frame p n c) h (headed_flat (modulo p) k m (frame p n c) h (λ i t a b l.
-    zero_entry p n (get_or c 0 []) i t (omega (arith, g.fits, h.fits)) (omega (arith, g.fits)) (z i t a b l)))
+    zero_entry p n (get_or c 0 []) i t (omega (arith, g.fits, h.fits)) (omega (arith, g.fits)) (z i a t b l)))
 
 -- a longer block was made, or nothing is left behind the block
 module _ (p n k m : ℕ) (s c : State) (g : Given p n k c) (x : (h : ℕ) × Settled (modulo p) n k m (frame p n s) h (frame p n c)) (r : ℕ) (z : Reach k (get_or c 0 []) r) where
@@ -175,11 +175,8 @@ module _ (p n k m : ℕ) (s c u : State) (g : Given p n k u) (x : Change (modulo
   pub split_ends : r ≤ m → (h : ℕ) × Split (modulo p) n k (frame p n s) h (frame p n u)
   split_ends l = (m, split_of_probed (modulo p) n k m (frame p n s) (frame p n c) y.0 (frame p n u) x y.1 (omega (arith, probed_is)))
 
-  pub split_change : Change (modulo p) n k (frame p n s) (frame p n u)
-  split_change = change_then (modulo p) n k x y.1.change
-
-  pub split_headed : Headed (modulo p) k r (frame p n u)
-  split_headed = subst (λ (q : ℕ). Headed (modulo p) k q (frame p n u)) probed_is y.1.headed
+  pub split_turn : Change (modulo p) n k (frame p n s) (frame p n u) × Headed (modulo p) k r (frame p n u)
+  split_turn = (change_then (modulo p) n k x y.1.change, subst (λ (q : ℕ). Headed (modulo p) k q (frame p n u)) probed_is y.1.headed)
 
 pub chained_reach : (p n k : ℕ) (s c : State) → Given p n k c → (m : ℕ) × Chained (modulo p) n k (frame p n s) m (frame p n c) → (r : ℕ) → Reach k (get_or c 0 []) r → Headed (modulo p) k r (frame p n c)
 chained_reach p n k s c g x r z = let h = chained_headed (modulo p) n k (frame p n s) x.0 (frame p n c) x.1 in

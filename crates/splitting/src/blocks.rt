@@ -12,7 +12,7 @@ ghost use Rattle.splitting.specs.Probe.{Joined, Probed, Split};
 ghost use Rattle.basis.specs.State.{frame, Fields, Given};
 ghost use Rattle.splitting.specs.Tails.{tail_of};
 ghost use Rattle.splitting.specs.Powers.{applied, KilledTest};
-ghost use Rattle.splitting.specs.Tests.{NothingBehind, FirstUnkilled};
+ghost use Rattle.splitting.specs.Tests.{NothingBehind, FirstUnkilled, FoundUnkilled};
 
 use crate::passes::{chain, first_pivot, reach};
 use basis::remainders::factor;
@@ -40,10 +40,8 @@ fn tail(x: Row, m: usize, k: usize, n: usize, p: u8) -> Row
     ensures { result ≡ tail_of p m k x }
 {
     let mut r = [0u8; ORDER];
-    let mut j = 0;
-    while j < k {
+    for j in 0..k {
         r[j] = tail_entry(x[j], j, m, p);
-        j = j + 1;
     }
     r
 }
@@ -66,13 +64,11 @@ fn clear(mut s: State, m: usize, k: usize, n: usize, p: u8) -> State
     requires { Given p n k s × Headed (modulo p) k m (frame p n s) }
     ensures { Fields p n result × Cleared (modulo p) n k m 0 (frame p n s) (frame p n result) }
 {
-    let mut r = m - 1;
-    while 0 < r {
+    for r in (1..m).rev() {
         if first_nonzero(s[0][r], m, k) < k {
-            let x = wipe(s, r - 1, m, k, n, p);
-            s = x;
+            let next = wipe(s, r - 1, m, k, n, p);
+            s = next;
         }
-        r = r - 1;
     }
     s
 }
@@ -96,10 +92,8 @@ fn apply(b: &Mat, g: Row, n: usize, p: u8, factor: u64) -> Row
     ensures { result ≡ applied p n b.now g }
 {
     let mut r = [0u8; ORDER];
-    let mut i = 0;
-    while i < n {
+    for i in 0..n {
         r[i] = inner(b[i], g, p, factor);
-        i = i + 1;
     }
     r
 }
@@ -108,14 +102,7 @@ pub fn same_row(x: Row, y: Row, n: usize) -> bool
     requires { n ≤ order_limit }
     ensures { result ≡ true → (i : ℕ) → i < n → get_or x i 0 ≡ get_or y i 0 }
 {
-    let mut i = 0;
-    while i < n {
-        if x[i] != y[i] {
-            return false;
-        }
-        i = i + 1;
-    }
-    true
+    x[..n] == y[..n]
 }
 
 // Whether the polynomial of the block of m kills e_j, tried by powers of b.
@@ -126,13 +113,11 @@ fn killed(b: &Mat, j: usize, m: usize, n: usize, p: u8) -> bool
     let f = factor(p);
     let mut g = column(b, j, n);
     let mut v = with_entry([0u8; ORDER], j, b[0][m - 1]);
-    let mut e = 1;
-    while e < m {
-        let y = add_multiple(v, b[e][m - 1], g, p, f);
-        let x = apply(b, g, n, p, f);
-        v = y;
-        g = x;
-        e = e + 1;
+    for e in 1..m {
+        let sum = add_multiple(v, b[e][m - 1], g, p, f);
+        let power = apply(b, g, n, p, f);
+        v = sum;
+        g = power;
     }
     same_row(g, v, n)
 }
@@ -146,19 +131,12 @@ fn join(s: State, j: usize, k: usize, n: usize, p: u8) -> State
     chain(replace(s, 0, w, n, p), k, n, p)
 }
 
-// The first vector from e_from on, below k, that the polynomial of the block of m is not found to kill; k if there is none.
-fn first_unkilled(b: &Mat, from: usize, m: usize, k: usize, n: usize, p: u8) -> usize
+// The first vector from e_from on, below k, that the polynomial of the block of m is not found to kill.
+fn first_unkilled(b: &Mat, from: usize, m: usize, k: usize, n: usize, p: u8) -> Option<usize>
     requires { (n ≤ order_limit) × (0 < p) × (from ≤ k) × (k ≤ n) × (0 < m) × (m ≤ n) × FieldMatrix p n b.now }
-    ensures { FirstUnkilled p n m from k b.now result }
+    ensures { FoundUnkilled p n m from k b.now result }
 {
-    let mut j = from;
-    while j < k {
-        if !killed(b, j, m, n, p) {
-            return j;
-        }
-        j = j + 1;
-    }
-    k
+    (from..k).find(|&j| !killed(b, j, m, n, p))
 }
 
 // Nothing is left behind the block, and e_from is the first vector that is not found killed: a longer block is made, or the block's polynomial
@@ -169,15 +147,15 @@ fn probe(mut s: State, from: usize, m: usize, k: usize, n: usize, p: u8) -> Stat
 {
     let mut j = from;
     loop {
-        let x = join(s, j, k, n, p);
-        s = x;
+        let next = join(s, j, k, n, p);
+        s = next;
         if m < reach(&s[0], k) {
             return s;
         }
-        j = first_unkilled(&s[0], j + 1, m, k, n, p);
-        if k <= j {
+        let Some(q) = first_unkilled(&s[0], j + 1, m, k, n, p) else {
             return s;
-        }
+        };
+        j = q;
     }
 }
 
@@ -186,47 +164,38 @@ fn is_settled(b: &Mat, m: usize, k: usize) -> bool
     requires { (m ≤ k) × (k ≤ order_limit) }
     ensures { result ≡ true → NothingBehind m k b.now }
 {
-    let mut i = 0;
-    while i < m {
-        if first_nonzero(b[i], m, k) < k {
-            return false;
-        }
-        i = i + 1;
-    }
-    true
+    (0..m).all(|i| first_nonzero(b[i], m, k) == k)
 }
 
 // The window becomes a block whose polynomial kills all of it, and the rest: each turn makes a longer block or is the last.
 // A state is handed on only where the matrix shows that there is something to do.
-pub fn split(s: State, k: usize, n: usize, p: u8) -> State
+pub fn split(mut s: State, k: usize, n: usize, p: u8) -> State
     requires { Given p n k s × (0 < k) × Window (modulo p) k (matrix p n (get_or s 0 [])) }
     ensures { Fields p n result × ((m : ℕ) × Split (modulo p) n k (frame p n s) m (frame p n result)) }
 {
-    let mut c = s;
-    if first_pivot(&c[0], 0, k) < k {
-        let y = chain(c, k, n, p);
-        c = y;
+    if first_pivot(&s[0], 0, k).is_some() {
+        let next = chain(s, k, n, p);
+        s = next;
     }
-    let mut m = reach(&c[0], k);
+    let mut m = reach(&s[0], k);
     loop {
-        if !is_settled(&c[0], m, k) {
-            let x = settle(c, m, k, n, p);
-            c = x;
-            let h = reach(&c[0], k);
+        if !is_settled(&s[0], m, k) {
+            let next = settle(s, m, k, n, p);
+            s = next;
+            let h = reach(&s[0], k);
             if m < h {
                 m = h;
                 continue;
             }
         }
-        let j = first_unkilled(&c[0], m, m, k, n, p);
-        if k <= j {
-            return c;
-        }
-        let x = probe(c, j, m, k, n, p);
-        c = x;
-        let h = reach(&c[0], k);
+        let Some(j) = first_unkilled(&s[0], m, m, k, n, p) else {
+            return s;
+        };
+        let next = probe(s, j, m, k, n, p);
+        s = next;
+        let h = reach(&s[0], k);
         if h <= m {
-            return c;
+            return s;
         }
         m = h;
     }
