@@ -1,5 +1,5 @@
 -- What the loops find and collect: a column, and the first entry that is not zero.
-use Rattle.std.specs.Prelude.{◌≡◌, ◌≢◌, List, ℕ, ◌≤◌, ◌<◌, get_or}
+use Rattle.std.specs.Prelude.{◌≡◌, ◌≢◌, List, ℕ, ◌≤◌, ◌<◌, get_or, Option, Some, None}
 use Rattle.matrices.specs.Filling.{filled, filled_inside}
 use Rattle.matrices.specs.Matrices.{cell, FieldRow, FieldMatrix, zero_row, filled_row}
 use Rattle.basis.specs.State.{Array}
@@ -20,3 +20,8 @@ pub record FirstNonzero (x : ℕ → ℕ) (from k r : ℕ) : Type 0 where
   pub high : r ≤ k
   pub zeros : (t : ℕ) → from ≤ t → t < r → x t ≡ 0
   pub hit : r < k → x r ≢ 0
+
+-- what a search finds: the first place from `from` on, below k, where x is not zero; nothing where there is none
+abbrev pub Found : (ℕ → ℕ) → (from k : ℕ) → Option ℕ → Type 0
+Found x from k (Some r) = FirstNonzero x from k r × (r < k)
+Found x from k None = FirstNonzero x from k k

@@ -2,23 +2,35 @@
 ghost use Rattle.std.specs.Prelude.{◌≡◌, ◌%◌, ◌<◌};
 ghost use Rattle.basis.specs.Remainders.{factor_of};
 
-// 2^32 / p, rounded up.
-pub fn factor(p: u8) -> u64
-    requires { 0 < p }
-    ensures { result ≡ factor_of p }
-{
-    let divisor = p as u32;
-    let quotient = 4294967295 / divisor;
-    (quotient as u64) + 1
+// A modulus p with 2^32 / p, rounded up.
+#[derive(Clone, Copy)]
+pub struct Modulus {
+    pub p: u8,
+    factor: u64,
+    pub ghost positive: { 0 < p },
+    pub ghost factor_is: { factor ≡ factor_of p },
 }
 
-// x % p
-pub fn remainder(x: u32, p: u8, factor: u64) -> u8
-    requires { (0 < p) × (x < 16777216) × (factor ≡ factor_of p) }
-    ensures { result ≡ x % p }
-{
-    let number = x as u64;
-    let quotient = (number * factor) / 4294967296;
-    let divisor = p as u64;
-    (number - quotient * divisor) as u8
+impl Modulus {
+    // The modulus p.
+    pub fn new(p: u8) -> Modulus
+        requires { 0 < p }
+        ensures { result.p ≡ p }
+    {
+        let quotient = u32::MAX / u32::from(p);
+        Modulus {
+            p,
+            factor: u64::from(quotient) + 1,
+        }
+    }
+
+    // x % p
+    pub fn remainder(self, x: u32) -> u8
+        requires { x < 16777216 }
+        ensures { result ≡ x % self.p }
+    {
+        let number = u64::from(x);
+        let quotient = number * self.factor / 4294967296;
+        (number - quotient * u64::from(self.p)) as u8
+    }
 }

@@ -6,25 +6,25 @@ use Rattle.basis.proofs.Shapes.{squares}
 use Rattle.basis.proofs.steps.add_columns.Goals as goal
 
 pub loop-i-init : goal.loop-i-init
-loop-i-init c = (search rules, overwriting_start columns_pair _ _ c.args.s)
+loop-i-init c = overwriting_start columns_pair _ _ c.args.s
 
 pub plus_multiple_row-requires : goal.plus_multiple_row-requires
 plus_multiple_row-requires c =
     let l = c.loop-i in
     let long : length c.args.s ≡ 3 = search rules in
-    (search rules, search rules, first_field columns_pair _ _ c.args.s (squares c.args.s _ long c.well_formed.0.1.1) l.i (search rules) l.s l.invariant.1 _ _ (search rules) (search rules) (search rules) c.requires.3.B)
+    first_field columns_pair _ _ c.args.s (squares c.args.s _ long c.well_formed.0.1.1) l.i (search rules) l.s l.invariant _ _ (search rules) (search rules) (search rules) c.requires.2.B
 
 pub plus_multiple_row-requires-in-loop-i : goal.plus_multiple_row-requires-in-loop-i
 plus_multiple_row-requires-in-loop-i c =
     let l = c.loop-i in
     let long : length c.args.s ≡ 3 = search rules in
-    (search rules, search rules, second_field columns_pair _ _ c.args.s (squares c.args.s _ long c.well_formed.0.1.1) l.i (search rules) l.s l.invariant.1 _ _ _ (search rules) (search rules) (search rules) c.requires.3.T)
+    second_field columns_pair _ _ c.args.s (squares c.args.s _ long c.well_formed.0.1.1) l.i (search rules) l.s l.invariant _ _ _ (search rules) (search rules) (search rules) c.requires.2.T
 
 pub loop-i-preserved : goal.loop-i-preserved
 loop-i-preserved c =
     let l = c.loop-i in
     let long : length c.args.s ≡ 3 = search rules in
-    (search rules, overwriting_turn columns_pair _ _ c.args.s (squares c.args.s _ long c.well_formed.0.1.1) l.i (search rules) l.s l.invariant.1 _ _ c.plus_multiple_row.ensures c.plus_multiple_row-in-loop-i.ensures)
+    overwriting_turn columns_pair _ _ c.args.s (squares c.args.s _ long c.well_formed.0.1.1) l.i (search rules) l.s l.invariant _ _ c.plus_multiple_row.ensures c.plus_multiple_row-in-loop-i.ensures
 
 pub returns : goal.returns
-returns c = columns_added _ _ c.args.s _ (search rules) (search rules) c.requires.3 _ _ (search rules) c.requires.4 (overwriting_end columns_pair _ _ c.args.s c.loop-i.invariant.0 c.loop-i-test.false c.loop-i.invariant.1)
+returns c = columns_added _ _ c.args.s _ (search rules) (search rules) c.requires.2 _ _ (search rules) c.requires.3 (overwriting_end columns_pair _ _ c.args.s c.loop-i.auto.i-end c.loop-i-test.false c.loop-i.invariant)

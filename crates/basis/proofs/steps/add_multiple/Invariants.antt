@@ -1,12 +1,8 @@
 -- The row is filled with remainders; each sum of a byte and a product of two is below 2^24.
-use Rattle.std.proofs.Common.{◌≤◌, ◌-◌, ◌+◌, ◌*◌, ◌%◌, ◌≡◌, get_or}
-use Rattle.forms.specs.Numbers.{order_limit}
+use Rattle.std.proofs.Common.{◌+◌, ◌*◌, ◌%◌, ◌≡◌, get_or}
 use Rattle.matrices.specs.Filling.{filled}
 use Rattle.matrices.specs.Matrices.{zero_row}
 use Rattle.basis.proofs.steps.add_multiple.Given as goal
 
 abbrev pub invariant-loop-j : goal.invariant-loop-j
-invariant-loop-j l = (l.j ≤ order_limit) × (l.r ≡ filled l.j (λ j. (get_or l.x j 0 + l.k * get_or l.y j 0) % l.p) zero_row)
-
-abbrev pub decreases-loop-j : goal.decreases-loop-j
-decreases-loop-j l = order_limit - l.j
+invariant-loop-j l = l.r ≡ filled l.j (λ j. (get_or l.x j 0 + l.k * get_or l.y j 0) % l.m.p) zero_row

@@ -8,21 +8,19 @@ use Rattle.basis.proofs.steps.add_rows.Goals as goal
 use Rattle.basis.proofs.steps.add_rows.Goals.{then-c-i-ne0, else-c-i-ne0}
 
 pub loop-i-init : goal.loop-i-init
-loop-i-init c = (search rules, overwriting_start rows_pair _ _ c.args.s)
+loop-i-init c = overwriting_start rows_pair _ _ c.args.s
 
 pub loop-i-preserved : goal.loop-i-preserved
 loop-i-preserved c =
     let l = c.loop-i in
     let long : length c.args.s ≡ 3 = search rules in
-    let shape = squares c.args.s _ long c.well_formed.0.1.1 in (
-      search rules,
-      elim c.if-c-i-ne0.branch [
-        | then-c-i-ne0 w ↦ rw w.s-is (overwriting_turn rows_pair _ _ c.args.s shape l.i (search rules) l.s l.invariant.1 _ _ w.add_multiple.ensures w.add_multiple-then-c-i-ne0.ensures)
-        | else-c-i-ne0 w ↦ rw w.s-is (overwriting_left rows_pair _ _ c.args.s shape l.i (search rules) l.s l.invariant.1
-            (row_without _ _ l.i (get_or c.args.s 0 []) c.args.c (get_or (get_or c.args.s 0 []) c.args.at []) (search rules) (search rules) (search rules) (shape.square 0 (search rules)) c.requires.3.B w.if-c-i-ne0.false)
-            (row_without _ _ l.i (get_or c.args.s 2 []) c.args.c (get_or (get_or c.args.s 2 []) c.args.at []) (search rules) (search rules) (search rules) (shape.square 2 (search rules)) c.requires.3.I w.if-c-i-ne0.false))
-      ],
-    )
+    let shape = squares c.args.s _ long c.well_formed.0.1.1 in
+    elim c.if-c-i-ne0.branch [
+      | then-c-i-ne0 w ↦ rw w.s-is (overwriting_turn rows_pair _ _ c.args.s shape l.i (search rules) l.s l.invariant _ _ w.add_multiple.ensures w.add_multiple-then-c-i-ne0.ensures)
+      | else-c-i-ne0 w ↦ rw w.s-is (overwriting_left rows_pair _ _ c.args.s shape l.i (search rules) l.s l.invariant
+          (row_without _ _ l.i (get_or c.args.s 0 []) c.args.c (get_or (get_or c.args.s 0 []) c.args.at []) (search rules) (search rules) (search rules) (shape.square 0 (search rules)) c.requires.2.B w.if-c-i-ne0.false)
+          (row_without _ _ l.i (get_or c.args.s 2 []) c.args.c (get_or (get_or c.args.s 2 []) c.args.at []) (search rules) (search rules) (search rules) (shape.square 2 (search rules)) c.requires.2.I w.if-c-i-ne0.false))
+    ]
 
 pub returns : goal.returns
-returns c = rows_added _ _ c.args.s _ (search rules) (search rules) c.requires.3 _ _ (search rules) (overwriting_end rows_pair _ _ c.args.s c.loop-i.invariant.0 c.loop-i-test.false c.loop-i.invariant.1)
+returns c = rows_added _ _ c.args.s _ (search rules) (search rules) c.requires.2 _ _ (search rules) (overwriting_end rows_pair _ _ c.args.s c.loop-i.auto.i-end c.loop-i-test.false c.loop-i.invariant)

@@ -5,13 +5,13 @@ use Rattle.basis.specs.Steps.{combining_start, combining_turn, combining_end}
 use Rattle.basis.proofs.steps.combination.Goals as goal
 
 pub loop-i-init : goal.loop-i-init
-loop-i-init c = (search rules, combining_start _ _ _ c.args.m (search rules))
+loop-i-init c = combining_start _ _ _ c.args.x (search rules)
 
-pub plus_multiple_row-x-requires : goal.plus_multiple_row-x-requires
-plus_multiple_row-x-requires c = (search rules, c.factor-f.ensures, field_row_whole _ _ c.loop-i.r (search rules) (search rules) c.loop-i.invariant.1.field)
+pub plus_multiple_row-sum-requires : goal.plus_multiple_row-sum-requires
+plus_multiple_row-sum-requires c = field_row_whole _ _ c.loop-i.r (search rules) (search rules) c.loop-i.invariant.field
 
 pub loop-i-preserved : goal.loop-i-preserved
-loop-i-preserved c = (search rules, rw c.plus_multiple_row-x.ensures (combining_turn _ _ _ _ c.args.m _ (search rules) (search rules) c.requires.2 (search rules) c.loop-i.invariant.1))
+loop-i-preserved c = rw c.plus_multiple_row-sum.ensures (combining_turn _ _ _ _ c.args.x _ (search rules) (search rules) c.requires.1 (search rules) c.loop-i.invariant)
 
 pub returns : goal.returns
-returns c = combining_end _ _ _ c.args.m _ (rw (le_antisymm c.loop-i.invariant.0 c.loop-i-test.false) at c.loop-i.invariant.1)
+returns c = combining_end _ _ _ c.args.x _ (rw (le_antisymm c.loop-i.auto.i-end c.loop-i-test.false) at c.loop-i.invariant)

@@ -4,4 +4,4 @@ use Rattle.basis.specs.Steps.{plus_row_nothing}
 use Rattle.basis.proofs.steps.plus_multiple_row.Goals as goal
 
 pub returns-then-k-eq0 : goal.returns-then-k-eq0
-returns-then-k-eq0 c = let e : c.args.k ≡ 0 = search rules in rw e (plus_row_nothing _ c.args.x c.args.y (search rules) c.requires.2)
+returns-then-k-eq0 c = let e : c.args.k ≡ 0 = search rules in rw e (plus_row_nothing _ c.args.x c.args.y (search rules) c.requires)

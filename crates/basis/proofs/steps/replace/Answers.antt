@@ -7,23 +7,14 @@ use Rattle.basis.proofs.steps.replace.Goals as goal
 pub reciprocal_of-d-requires : goal.reciprocal_of-d-requires
 reciprocal_of-d-requires c = (c.requires.0.prime_p, c.requires.2.small _ (search rules))
 
-pub factor-f-requires : goal.factor-f-requires
-factor-f-requires c = prime_positive _ c.requires.0.prime_p
-
-pub overflow_sub-p : goal.overflow_sub-p
-overflow_sub-p c = omega (arith, c.reciprocal_of-d.ensures.small)
-
-pub add_multiple-requires : goal.add_multiple-requires
-add_multiple-requires c = (prime_positive _ c.requires.0.prime_p, c.factor-f.ensures)
-
-pub add_multiple-c-requires : goal.add_multiple-c-requires
-add_multiple-c-requires c = (prime_positive _ c.requires.0.prime_p, c.factor-f.ensures)
+pub overflow_sub-m : goal.overflow_sub-m
+overflow_sub-m c = omega (arith, c.reciprocal_of-d.ensures.small)
 
 pub set_columns-requires : goal.set_columns-requires
-set_columns-requires c = (search rules, search rules, prime_positive _ c.requires.0.prime_p, c.requires.0.fields)
+set_columns-requires c = (search rules, search rules, c.requires.0.fields)
 
 pub add_rows-requires : goal.add_rows-requires
-add_rows-requires c = (search rules, search rules, prime_positive _ c.requires.0.prime_p, c.set_columns.ensures.0)
+add_rows-requires c = (search rules, search rules, c.set_columns.ensures.0)
 
 pub returns : goal.returns
 returns c =

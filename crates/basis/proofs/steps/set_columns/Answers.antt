@@ -6,19 +6,17 @@ use Rattle.basis.proofs.Shapes.{squares}
 use Rattle.basis.proofs.steps.set_columns.Goals as goal
 
 pub loop-i-init : goal.loop-i-init
-loop-i-init c = (search rules, overwriting_start columns_pair _ _ c.args.s)
+loop-i-init c = overwriting_start columns_pair _ _ c.args.s
 
 pub loop-i-preserved : goal.loop-i-preserved
 loop-i-preserved c =
     let l = c.loop-i in
     let x = set (get_or (get_or l.s 0 []) l.i []) c.args.at in
     let y = set (get_or (get_or (row_set l.s 0 l.i (x c.inner.result)) 1 []) l.i []) c.args.at in
-    let long : length c.args.s ≡ 3 = search rules in (
-      search rules,
-      overwriting_turn columns_pair _ _ c.args.s (squares c.args.s _ long c.well_formed.0.1.1) l.i (search rules) l.s l.invariant.1 _ _ (ap x c.inner.ensures) (ap y c.inner-in-loop-i.ensures),
-    )
+    let long : length c.args.s ≡ 3 = search rules in
+    overwriting_turn columns_pair _ _ c.args.s (squares c.args.s _ long c.well_formed.0.1.1) l.i (search rules) l.s l.invariant _ _ (ap x c.inner.ensures) (ap y c.inner-in-loop-i.ensures)
 
 pub returns : goal.returns
 returns c =
     let long : length c.args.s ≡ 3 = search rules in
-    columns_set _ _ c.args.s _ (search rules) (search rules) c.requires.3 _ _ (search rules) (squares c.args.s _ long c.well_formed.0.1.1) (overwriting_end columns_pair _ _ c.args.s c.loop-i.invariant.0 c.loop-i-test.false c.loop-i.invariant.1)
+    columns_set _ _ c.args.s _ (search rules) (search rules) c.requires.2 _ _ (search rules) (squares c.args.s _ long c.well_formed.0.1.1) (overwriting_end columns_pair _ _ c.args.s c.loop-i.auto.i-end c.loop-i-test.false c.loop-i.invariant)
