@@ -30,14 +30,14 @@ module _ (p : ℕ) (F : Array) (end : ℕ) where
   no_coefficient j l = simp (lt-leb j end (omega arith), ne_eqb j (end + 1) (λ e. omega arith))
 
 -- P
-module _ (TI : Array) (end i c k : ℕ) where
-  pub P_inside : i + k ≤ end → cell TI (i + k) c ≡ P_coefficient TI end i c k
+module _ (TI : Array) (end i c : ℕ) where
+  pub P_inside : (row : ℕ) → i ≤ row → row ≤ end → cell TI row c ≡ P_coefficient TI end i c (row - i)
   unfolding P_coefficient
-  P_inside l = simp (le-leb (i + k) end l)
+  P_inside row h l = let e : i + (row - i) ≡ row = omega arith in simp (e, le-leb row end l)
 
-  pub P_short : end < i + k → P_coefficient TI end i c k ≡ 0
+  pub P_short : (k : ℕ) → end < i + k → P_coefficient TI end i c k ≡ 0
   unfolding P_coefficient
-  P_short l = simp (lt-leb (i + k) end l)
+  P_short k l = simp (lt-leb (i + k) end l)
 
 -- the inverse of P
 module _ (p : ℕ) (F T : Array) (r i : ℕ) where
@@ -103,8 +103,8 @@ module _ (p : ℕ) (F T : Array) (end r i : ℕ) where
   Q_short e k l = simp (e, ne_eqb k 0 (λ q. omega arith))
 
 -- the inverse of Q; what is added to its constant term is added to no other
-pub only_first : (k x : ℕ) → 0 ≡ cond (eqb (k + 1) 0) x 0
-only_first k x = sym (simp (ne_eqb (k + 1) 0 (λ q. omega arith)))
+pub only_first : (k x : ℕ) → 1 ≤ k → 0 ≡ cond (eqb k 0) x 0
+only_first k x l = sym (simp (ne_eqb k 0 (λ q. omega arith)))
 
 module _ (p : ℕ) (F TI : Array) (end i c : ℕ) where
   pub QI_head_first : begins F i ≡ true → cell TI end c ≡ QI_coefficient p F TI end i c 0
@@ -124,9 +124,9 @@ module _ (p : ℕ) (F TI : Array) (end i c : ℕ) where
     unfolding QI_coefficient
     later k l = simp (e, ne_eqb k 0 (λ q. omega arith), zero-add)
 
-    pub QI_inside : (k : ℕ) → i + k ≤ end → (cond (eqb k 0) (p - cell TI (i - 1) c) 0 + opposite p (cell F (i + k) end) * cell TI end c) % p ≡ QI_coefficient p F TI end i c k
+    pub QI_inside : (row : ℕ) → i ≤ row → row ≤ end → (cond (eqb (row - i) 0) (p - cell TI (i - 1) c) 0 + opposite p (cell F row end) * cell TI end c) % p ≡ QI_coefficient p F TI end i c (row - i)
     unfolding QI_coefficient
-    QI_inside k h = simp (e, low_coefficient p F end (i + k) h)
+    QI_inside row h l = let q : i + (row - i) ≡ row = omega arith in simp (e, q, low_coefficient p F end row l)
 
     module _ (k : ℕ) (l : 1 ≤ k) where
       pub QI_leading : i + k ≡ end + 1 → cell TI end c < p → cell TI end c ≡ QI_coefficient p F TI end i c k

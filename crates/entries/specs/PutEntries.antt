@@ -1,6 +1,6 @@
 -- Entries put into an output that is zero there: only the coefficients that can be other than zero are put, and all of them stand.
 use Rattle.std.specs.Prelude.{◌≡◌, ℕ, zero, suc, ◌+◌, ◌*◌, ◌-◌, ◌≤◌, ◌<◌, length, take, drop, set, get_or, replicate}
-use Rattle.std.proofs.Math.Path.{sym, ap}
+use Rattle.std.proofs.Math.Path.{refl, sym, ap}
 use Rattle.std.proofs.Common.{◌∙◌, ap₂, subst, add-zero, suc-mul, mul-le-mul, add-one, arith, length-append, length-take-le, take_at, drop_at, get_or-append-add, get_or-drop, get_or-take}
 use mathlib.Core.List.{List, [], ◌∷◌, ◌++◌, append_assoc}
 use Rattle.std.proofs.lemmas.List.{length-replicate, get_or-replicate, set-get_or}
@@ -9,7 +9,7 @@ use Rattle.forms.specs.Numbers.{at}
 use Rattle.forms.specs.Polynomials.{Coefficients}
 use Rattle.forms.specs.Certificate.{joined}
 use Rattle.forms.specs.Listed.{listed, listed_length}
-use Rattle.writing.specs.Put.{put, Puts, length_put, put_put, put_nothing, set_is_put, puts_then, puts_bytes}
+use Rattle.writing.specs.Put.{put, Puts, length_put, put_put, put_nothing, set_is_put}
 use Rattle.entries.specs.Listing.{listed_append}
 use Rattle.entries.specs.PutRows.{joined_rows_length}
 
@@ -25,22 +25,24 @@ unfolding listed
 listed_more k f = listed_append k 1 f ∙ ap (λ (x : ℕ). listed k f ++ (f x ∷ [])) (add-zero k)
 
 -- nothing is put yet, one more coefficient, and the end
-module _ (f : Coefficients) {start : ℕ} {before : List ℕ} where
-  pub coefficients_none : Puts start (listed 0 f) before before start
+module _ (f : Coefficients) (start : ℕ) (before : List ℕ) where
+  pub coefficients_none : {k : ℕ} → k ≡ 0 → before ≡ put before start (listed k f)
   unfolding listed
-  coefficients_none = record { written = sym (put_nothing before start); ends = sym (add-zero start) }
+  coefficients_none e = sym (ap (λ (x : ℕ). put before start (listed x f)) e ∙ put_nothing before start)
 
-  pub coefficients_more : {k next end v : ℕ} {between after : List ℕ} → Puts start (listed k f) before between next → v ≡ f k → Puts next (v ∷ []) between after end → start + k ≤ length before → Puts start (listed (k + 1) f) before after end
-  coefficients_more {k} p e q l = puts_bytes (ap (λ (x : ℕ). listed k f ++ (x ∷ [])) e ∙ sym (listed_more k f)) (puts_then p q (omega (arith, listed_length k f)))
+  pub coefficients_more : (k : ℕ) {next place v : ℕ} {between : List ℕ} → between ≡ put before start (listed k f) → v ≡ f k → place ≡ start + k → next ≡ k + 1 → start + k < length before → set between place v ≡ put before start (listed next f)
+  coefficients_more k {next} {place} {v} {between} e g q h l =
+      let long = listed_length k f in
+      let whole = length_put before start (listed k f) (omega arith) in
+      ap₂ (λ (d : List ℕ) (x : ℕ). set d place x) e g ∙ set_is_put (put before start (listed k f)) place (f k) (omega arith)
+      ∙ put_put before start place (listed k f) (f k ∷ []) (omega arith) (omega arith)
+      ∙ ap (put before start) (sym (listed_more k f) ∙ ap (λ (x : ℕ). listed x f) (sym h))
 
-  pub coefficients_next : (k : ℕ) {next : ℕ} {between : List ℕ} → Puts start (listed k f) before between next → next ≡ start + k
-  coefficients_next k p = p.ends ∙ ap (λ (x : ℕ). start + x) (listed_length k f)
+  pub coefficients_end : {n : ℕ} (k : ℕ) {after : List ℕ} → after ≡ put before start (listed k f) → k ≤ n → ((j : ℕ) → k ≤ j → f j ≡ 0) → ShortPut start n f before after
+  coefficients_end k e l z = record { many = k; few = l; written = e; none = z }
 
-  pub coefficients_end : {n k next : ℕ} {after : List ℕ} → Puts start (listed k f) before after next → k ≤ n → ((j : ℕ) → k ≤ j → f j ≡ 0) → ShortPut start n f before after
-  coefficients_end {n} {k} p l z = record { many = k; few = l; written = p.written; none = z }
-
-  pub one_coefficient : {n next v : ℕ} {after : List ℕ} → Puts start (v ∷ []) before after next → v ≡ f 0 → 1 ≤ n → start ≤ length before → ((j : ℕ) → 1 ≤ j → f j ≡ 0) → ShortPut start n f before after
-  one_coefficient p e l r z = coefficients_end (coefficients_more coefficients_none e p (omega arith)) l z
+  pub one_coefficient : {n v : ℕ} → v ≡ f 0 → 1 ≤ n → start + n ≤ length before → ((j : ℕ) → 1 ≤ j → f j ≡ 0) → ShortPut start n f before (set before start v)
+  one_coefficient e r l z = coefficients_end 1 (coefficients_more 0 (coefficients_none refl) e (sym (add-zero start)) refl (omega arith)) r z
 
 -- behind what was put all is as before
 pub put_beyond : (d : List ℕ) (start : ℕ) (xs : List ℕ) (k : ℕ) → start + length xs ≤ length d → at (put d start xs) (start + length xs + k) ≡ at d (start + length xs + k)

@@ -12,19 +12,12 @@ use basis::remainders::remainder;
 use basis::steps::State;
 use forms::ORDER;
 use heads::is_head;
-use matrices::{Mat, Row, wide};
-use writing::put_byte;
+use matrices::{Mat, Row};
 
 // The most coefficients that an entry of D has.
 const COEFFICIENTS: usize = ORDER + 1;
 
 type Entry = [u8; COEFFICIENTS];
-
-fn index(x: u8) -> usize
-    ensures { result ≡ x }
-{
-    x as usize
-}
 
 // -x
 fn opposite(x: u8, p: u8) -> u8
@@ -70,11 +63,8 @@ fn p_entry(out: &mut [u8], start: usize, ti: &Mat, end: usize, i: usize, c: usiz
     requires { (start + n ≤ length out.old) × (n ≤ order_limit) × (end < n) × (i < n) × (c < n) }
     ensures { ShortPut start n (P_coefficient ti.now end i c) out.old out.new }
 {
-    let mut next = start;
-    let mut k = 0;
-    while i + k <= end {
-        next = put_byte(out, next, ti[i + k][c]);
-        k = k + 1;
+    for row in i..end + 1 {
+        out[start + row - i] = ti[row][c];
     }
 }
 
@@ -83,11 +73,11 @@ fn pi_entry(out: &mut [u8], start: usize, f: &Mat, t: &Mat, r: usize, i: usize, 
     requires { (start + n ≤ length out.old) × (n ≤ order_limit) × (r < n) × (i < n) × Small p t.now }
     ensures { ShortPut start n (PI_coefficient p f.now t.now r i) out.old out.new }
 {
-    let next = put_byte(out, start, t[r][i]);
+    out[start] = t[r][i];
     if is_head(f, i) {
         return;
     }
-    put_byte(out, next, opposite(t[r][i - 1], p));
+    out[start + 1] = opposite(t[r][i - 1], p);
 }
 
 // Row r of T times the polynomial of the block of row i, from coefficient k + 1 on, with the leading 1 first.
@@ -95,13 +85,9 @@ fn head_sum(f: &Mat, t: &Mat, end: usize, r: usize, i: usize, k: usize, p: u8, f
     requires { (end < order_limit) × (r < order_limit) × (i + k ≤ end) × Small p f.now × (factor ≡ factor_of p) }
     ensures { result ≡ head_sum p f.now t.now end r i k }
 {
-    let mut sum = wide(t[r][end - k]);
-    let mut s = 0;
-    while i + s + k < end {
-        let x = wide(t[r][i + s]);
-        let y = wide(opposite(f[i + s + 1 + k][end], p));
-        sum = sum + x * y;
-        s = s + 1;
+    let mut sum = u32::from(t[r][end - k]);
+    for j in i..end - k {
+        sum += u32::from(t[r][j]) * u32::from(opposite(f[j + 1 + k][end], p));
     }
     remainder(sum, p, factor)
 }
@@ -122,11 +108,9 @@ fn head_entry(
     requires { (start + n ≤ length out.old) × (n ≤ order_limit) × (end < n) × (r < n) × (i < n) × Small p f.now × (factor ≡ factor_of p) }
     ensures { ShortPut start n (head_sum p f.now t.now end r i) out.old out.new }
 {
-    let mut next = start;
-    let mut k = 0;
-    while i + k <= end {
-        next = put_byte(out, next, head_sum(f, t, end, r, i, k, p, factor));
-        k = k + 1;
+    for row in i..end + 1 {
+        let k = row - i;
+        out[start + k] = head_sum(f, t, end, r, i, k, p, factor);
     }
 }
 
@@ -150,7 +134,7 @@ fn q_entry(
         head_entry(out, start, f, t, end, r, i, n, p, factor);
         return;
     }
-    put_byte(out, start, opposite(t[r][i - 1], p));
+    out[start] = opposite(t[r][i - 1], p);
 }
 
 // The coefficients of the inverse of Q, in row i, which begins no block, and column c.
@@ -170,17 +154,14 @@ fn multiple_entry(
     ensures { ShortPut start n (QI_coefficient p f.now ti.now end i c) out.old out.new }
 {
     let last = ti[end][c];
-    let scale = wide(last);
-    let mut more = wide(p - ti[i - 1][c]);
-    let mut next = start;
-    let mut k = 0;
-    while i + k <= end {
-        let b = wide(opposite(f[i + k][end], p));
-        next = put_byte(out, next, remainder(more + b * scale, p, factor));
+    let scale = u32::from(last);
+    let mut more = u32::from(p - ti[i - 1][c]);
+    for row in i..end + 1 {
+        let b = u32::from(opposite(f[row][end], p));
+        out[start + row - i] = remainder(more + b * scale, p, factor);
         more = 0;
-        k = k + 1;
     }
-    put_byte(out, next, last);
+    out[start + end + 1 - i] = last;
 }
 
 // The coefficients of the inverse of Q, in row i and column c.
@@ -200,11 +181,11 @@ fn qi_entry(
     ensures { ShortPut start n (QI_coefficient p f.now ti.now end i c) out.old out.new }
 {
     if is_head(f, i) {
-        put_byte(out, start, ti[end][c]);
+        out[start] = ti[end][c];
         return;
     }
     if ti[end][c] == 0 {
-        put_byte(out, start, opposite(ti[i - 1][c], p));
+        out[start] = opposite(ti[i - 1][c], p);
         return;
     }
     multiple_entry(out, start, f, ti, end, i, c, n, p, factor);
@@ -241,8 +222,8 @@ pub fn closed_entry(
     requires { (start + n ≤ length out.old) × (r < n) × (c < n) × (n ≤ order_limit) × Tables n from.now last.now × SmallState p s.now × (factor ≡ factor_of p) }
     ensures { ShortPut start n (closed_entry p s.now from.now last.now kind r c) out.old out.new }
 {
-    let i = index(from[side(kind, r, c)]);
-    let end = index(last[i]);
+    let i = usize::from(from[side(kind, r, c)]);
+    let end = usize::from(last[i]);
     if kind == 3 {
         p_entry(out, start, &s[2], end, i, c, n);
         return;
@@ -263,13 +244,11 @@ pub fn d_entry(f: &Mat, from: &Row, last: &Row, b: usize, n: usize, p: u8) -> En
     requires { (b < n) × (n ≤ order_limit) × Tables n from.now last.now × Small p f.now }
     ensures { result ≡ filled (n + 1) (D_entry p f.now from.now last.now b) zero_entry }
 {
-    let i = index(from[b]);
-    let end = index(last[i]);
+    let i = usize::from(from[b]);
+    let end = usize::from(last[i]);
     let mut e = [0u8; COEFFICIENTS];
-    let mut k = 0;
-    while k <= n {
+    for k in 0..n + 1 {
         e[k] = d_coefficient(f, i, end, k, p);
-        k = k + 1;
     }
     e
 }

@@ -1,7 +1,7 @@
 // The payloads, put into the output row by row, and the ten records.
 #![tactic(auto)]
 
-ghost use Rattle.std.specs.Prelude.{◌≡◌, [], ◌++◌, ◌+◌, ◌*◌, ◌≤◌, ◌<◌, length, get_or, drop};
+ghost use Rattle.std.specs.Prelude.{◌≡◌, ◌++◌, ◌+◌, ◌*◌, ◌≤◌, ◌<◌, length, get_or, drop};
 ghost use Rattle.forms.specs.Numbers.{order_limit};
 ghost use Rattle.forms.specs.Certificate.{payload, layout, size, certificate_length, joined};
 ghost use Rattle.forms.specs.Words.{LaidOut};
@@ -22,11 +22,12 @@ use writing::{put_bytes, put_head};
 // The most bytes that a row of P, Q or an inverse has.
 const LINE: usize = ORDER * ORDER;
 
-fn row(m: &Mat, i: usize) -> Row
-    requires { i < order_limit }
-    ensures { result ≡ get_or m.now i [] }
+// A row of a field matrix.
+fn put_row(out: &mut [u8], at: usize, row: &Row, n: usize) -> usize
+    requires { (n ≤ order_limit) × (at + n ≤ length out.old) }
+    ensures { Puts at (listed n (λ j. get_or row.now j 0)) out.old out.new result }
 {
-    m[i]
+    put_bytes(out, at, &row[..n])
 }
 
 // A field matrix.
@@ -35,11 +36,8 @@ fn put_matrix(out: &mut [u8], at: usize, m: &Mat, n: usize) -> usize
     ensures { Puts at (matrix_payload n m.now) out.old out.new result }
 {
     let mut next = at;
-    let mut i = 0;
-    while i < n {
-        let entries = row(m, i);
-        next = put_bytes(out, next, &entries[..n]);
-        i = i + 1;
+    for row in &m[..n] {
+        next = put_row(out, next, row, n);
     }
     next
 }
@@ -58,11 +56,9 @@ fn put_diagonal(
     ensures { Puts at (diagonal_payload p n f.now from.now last.now) out.old out.new result }
 {
     let mut next = at;
-    let mut b = 0;
-    while b < n {
+    for b in 0..n {
         let entry = d_entry(f, from, last, b, n, p);
         next = put_bytes(out, next, &entry[..n + 1]);
-        b = b + 1;
     }
     next
 }
@@ -85,10 +81,8 @@ fn put_line(
 {
     let zeros = [0u8; LINE];
     let end = put_bytes(out, at, &zeros[..n * n]);
-    let mut c = 0;
-    while c < n {
+    for c in 0..n {
         closed_entry(out, at + c * n, kind, s, from, last, r, c, n, p, factor);
-        c = c + 1;
     }
     end
 }
@@ -109,10 +103,8 @@ fn put_polynomials(
 {
     let f = factor(p);
     let mut next = at;
-    let mut r = 0;
-    while r < n {
+    for r in 0..n {
         next = put_line(out, next, kind, s, from, last, r, n, p, f);
-        r = r + 1;
     }
     next
 }
@@ -163,11 +155,9 @@ pub fn put_records(
     ensures { (result ≡ certificate_length n) × (out.new ≡ layout (written p n matrix.now s.now from.now last.now) ++ drop (certificate_length n) out.old) }
 {
     let mut at = 0;
-    let mut k = 0;
-    while k < RECORDS {
+    for k in 0..RECORDS {
         let start = put_head(out, at, k, payload_size(n, k));
         at = put_payload(out, start, k, p, n, matrix, s, from, last);
-        k = k + 1;
     }
     at
 }

@@ -1,34 +1,30 @@
 -- The loop: the first b entries of D are put.
-use Rattle.std.proofs.Common.{rules, arith, ◌≡◌, refl, sym, ◌+◌, length, take, length-take-le}
-use Rattle.forms.specs.Listed.{listed_length}
+use Rattle.std.proofs.Common.{ℕ, List, ◌≡◌, ◌+◌, ◌*◌, ◌≤◌, length, take, length-take-le, arith}
+use Rattle.forms.specs.Listed.{listed, listed_length}
 use Rattle.writing.specs.Put.{puts_bytes}
+use Rattle.entries.specs.Coefficients.{D_entry}
 use Rattle.entries.specs.Listing.{filled_listed}
-use Rattle.entries.specs.PutRows.{rows_start, rows_room, rows_turn, rows_end}
+use Rattle.entries.specs.PutRows.{Rows, rows_start, rows_room, rows_turn, rows_end}
 use Rattle.payloads.proofs.put_diagonal.Goals as goal
 
-pub loop-b-init : goal.loop-b-init
-loop-b-init c = (search rules, rows_start (record { long = λ i. listed_length _ _; room = c.requires.1 }), refl)
+-- entries of n + 1 coefficients, with room for all of them
+rows : (at n : ℕ) (entry : ℕ → ℕ → ℕ) (out : List ℕ) → at + n * (n + 1) ≤ length out → Rows at n (n + 1) (λ b. listed (n + 1) (entry b)) out
+rows at n entry out room = record { long = λ b. listed_length _ _; room = room }
 
-pub slice_bounds-put_bytes-end : goal.slice_bounds-put_bytes-end
-slice_bounds-put_bytes-end c = sym (length-take-le _ _ (search rules))
+pub loop-b-init : goal.loop-b-init
+loop-b-init c = rows_start (rows c.args.at c.args.n (D_entry c.args.p c.args.f.now c.args.from.now c.args.last.now) c.args.out.now c.requires.1)
 
 pub put_bytes-next-requires : goal.put_bytes-next-requires
 put_bytes-next-requires c =
-    let l = c.loop-b in
-    let many : length (take (c.args.n + 1) c.d_entry-entry.result) ≡ c.args.n + 1 = length-take-le _ _ (search rules) in
-    let room = rows_room (record { long = λ i. listed_length _ _; room = c.requires.1 }) (omega arith) l.invariant.1 l.invariant.2 in
+    let many : length (take (c.args.n + 1) c.d_entry-entry.result) ≡ c.args.n + 1 = length-take-le _ _ (omega arith) in
+    let room = rows_room (rows c.args.at c.args.n (D_entry c.args.p c.args.f.now c.args.from.now c.args.last.now) c.args.out.now c.requires.1) (omega arith) c.loop-b.invariant c.loop-b.auto.out in
     omega (arith, many, room)
 
 pub loop-b-preserved : goal.loop-b-preserved
 loop-b-preserved c =
-    let l = c.loop-b in
-    let w = c.put_bytes-next in
-    let e = c.d_entry-entry in
-    let many : length (take (c.args.n + 1) e.result) ≡ c.args.n + 1 = length-take-le _ _ (search rules) in
-    (search rules, rows_turn (record { long = λ i. listed_length _ _; room = c.requires.1 }) (omega arith) l.invariant.1 (puts_bytes (filled_listed (c.args.n + 1) _ _ e.ensures many) w.ensures), omega (arith, w.auto, l.invariant.2))
-
-pub shape_of-out : goal.shape_of-out
-shape_of-out c = c.loop-b.invariant.2
+    let entry = c.d_entry-entry in
+    let bytes = filled_listed (c.args.n + 1) _ _ entry.ensures (length-take-le _ _ (omega arith)) in
+    rows_turn (rows c.args.at c.args.n (D_entry c.args.p c.args.f.now c.args.from.now c.args.last.now) c.args.out.now c.requires.1) (omega arith) c.loop-b.invariant (puts_bytes bytes c.put_bytes-next.ensures)
 
 pub returns : goal.returns
-returns c = let l = c.loop-b in rows_end (record { long = λ i. listed_length _ _; room = c.requires.1 }) l.invariant.0 c.loop-b-test.false l.invariant.1
+returns c = rows_end (rows c.args.at c.args.n (D_entry c.args.p c.args.f.now c.args.from.now c.args.last.now) c.args.out.now c.requires.1) (omega arith) (omega arith) c.loop-b.invariant

@@ -1,5 +1,5 @@
 -- Zeros are put for the whole line, and over them the first c entries.
-use Rattle.std.proofs.Common.{List, rules, arith, ◌≡◌, refl, sym, ℕ, ◌*◌, mul-le-mul, length, take, replicate, length-take-le}
+use Rattle.std.proofs.Common.{List, arith, ◌≡◌, sym, ℕ, ◌*◌, mul-le-mul, length, take, replicate, length-take-le}
 use Rattle.forms.specs.Numbers.{order_limit}
 use Rattle.forms.specs.Listed.{listed, listed_length, row_place}
 use Rattle.basis.specs.State.{State}
@@ -23,7 +23,7 @@ put_bytes-end-requires c =
     omega (arith, many, c.requires.2)
 
 pub loop-c-init : goal.loop-c-init
-loop-c-init c = (search rules, line_start (entries c.args.p c.args.n c.args.s.now c.args.from.now c.args.last.now c.args.kind c.args.r) _ _, refl)
+loop-c-init c = line_start (entries c.args.p c.args.n c.args.s.now c.args.from.now c.args.last.now c.args.kind c.args.r) _ _
 
 pub overflow_mul-c : goal.overflow_mul-c
 overflow_mul-c c = omega (arith, row_place c.loop-c.c 0 c.args.n c.args.n c.loop-c-test.true (omega (arith, c.loop-c-test.true)), mul-le-mul c.requires.1 c.requires.1)
@@ -32,18 +32,14 @@ pub overflow_add-at : goal.overflow_add-at
 overflow_add-at c = omega (arith, row_place c.loop-c.c 0 c.args.n c.args.n c.loop-c-test.true (omega (arith, c.loop-c-test.true)), c.requires.2)
 
 pub closed_entry-requires : goal.closed_entry-requires
-closed_entry-requires c = ((line_zeros (entries c.args.p c.args.n c.args.s.now c.args.from.now c.args.last.now c.args.kind c.args.r) c.args.n (λ i. listed_length _ _) (zeros_there (order_limit * order_limit) c.put_bytes-end.ensures (mul-le-mul c.requires.1 c.requires.1) c.requires.2) c.loop-c-test.true c.loop-c.invariant.1).room, c.requires.0, c.loop-c-test.true, c.requires.1, c.requires.3, c.requires.4, c.requires.5)
+closed_entry-requires c = ((line_zeros (entries c.args.p c.args.n c.args.s.now c.args.from.now c.args.last.now c.args.kind c.args.r) c.args.n (λ i. listed_length _ _) (zeros_there (order_limit * order_limit) c.put_bytes-end.ensures (mul-le-mul c.requires.1 c.requires.1) c.requires.2) c.loop-c-test.true c.loop-c.invariant).room, c.requires.0, c.loop-c-test.true, c.requires.1, c.requires.3, c.requires.4, c.requires.5)
 
 pub loop-c-preserved : goal.loop-c-preserved
 loop-c-preserved c =
-    let free = line_zeros (entries c.args.p c.args.n c.args.s.now c.args.from.now c.args.last.now c.args.kind c.args.r) c.args.n (λ i. listed_length _ _) (zeros_there (order_limit * order_limit) c.put_bytes-end.ensures (mul-le-mul c.requires.1 c.requires.1) c.requires.2) c.loop-c-test.true c.loop-c.invariant.1 in (
-      search rules,
-      line_turn (entries c.args.p c.args.n c.args.s.now c.args.from.now c.args.last.now c.args.kind c.args.r) c.args.n (λ i. listed_length _ _) (zeros_there (order_limit * order_limit) c.put_bytes-end.ensures (mul-le-mul c.requires.1 c.requires.1) c.requires.2) c.loop-c-test.true c.loop-c.invariant.1 (short_put_whole _ _ _ _ free c.closed_entry.ensures),
-      omega (arith, c.closed_entry.auto, c.loop-c.invariant.2),
-    )
-
-pub shape_of-out : goal.shape_of-out
-shape_of-out c = omega (arith, c.loop-c.invariant.2, c.put_bytes-end.auto)
+    let zeros = zeros_there (order_limit * order_limit) c.put_bytes-end.ensures (mul-le-mul c.requires.1 c.requires.1) c.requires.2 in
+    let line = entries c.args.p c.args.n c.args.s.now c.args.from.now c.args.last.now c.args.kind c.args.r in
+    let free = line_zeros line c.args.n (λ i. listed_length _ _) zeros c.loop-c-test.true c.loop-c.invariant in
+    line_turn line c.args.n (λ i. listed_length _ _) zeros c.loop-c-test.true c.loop-c.invariant (short_put_whole _ _ _ _ free c.closed_entry.ensures)
 
 pub returns : goal.returns
-returns c = line_end (entries c.args.p c.args.n c.args.s.now c.args.from.now c.args.last.now c.args.kind c.args.r) _ (λ i. listed_length _ _) (length-take-le _ _ (omega (arith, mul-le-mul c.requires.1 c.requires.1))) c.requires.2 c.loop-c.invariant.0 c.loop-c-test.false c.put_bytes-end.ensures c.loop-c.invariant.1
+returns c = line_end (entries c.args.p c.args.n c.args.s.now c.args.from.now c.args.last.now c.args.kind c.args.r) _ (λ i. listed_length _ _) (length-take-le _ _ (omega (arith, mul-le-mul c.requires.1 c.requires.1))) c.requires.2 c.loop-c.auto.c-end c.loop-c-test.false c.put_bytes-end.ensures c.loop-c.invariant

@@ -1,5 +1,5 @@
 -- Zeros are put for the whole line, and over them the first c entries.
-use Rattle.std.proofs.Common.{◌≡◌, ◌-◌, ◌≤◌, length}
+use Rattle.std.proofs.Common.{◌≡◌}
 use Rattle.forms.specs.Certificate.{joined}
 use Rattle.forms.specs.Listed.{listed}
 use Rattle.writing.specs.Put.{put}
@@ -7,7 +7,4 @@ use Rattle.entries.specs.Coefficients.{closed_entry}
 use Rattle.payloads.proofs.put_line.Given as goal
 
 abbrev pub invariant-loop-c : goal.invariant-loop-c
-invariant-loop-c l = (l.c ≤ l.n) × (l.out ≡ put l.initial.out l.at (joined l.c (λ c. listed l.n (closed_entry l.p l.s l.from l.last l.kind l.r c)))) × (length l.out ≡ length l.initial.out)
-
-abbrev pub decreases-loop-c : goal.decreases-loop-c
-decreases-loop-c l = l.n - l.c
+invariant-loop-c l = l.out ≡ put l.initial.out l.at (joined l.c (λ c. listed l.n (closed_entry l.p l.s l.from l.last l.kind l.r c)))

@@ -1,35 +1,31 @@
--- The loop: the first i rows are put.
-use Rattle.std.proofs.Common.{rules, arith, ◌≡◌, refl, sym, ◌∙◌, ap, length, take, get_or, length-take-le}
+-- The loop: the rows so far are put.
+use Rattle.std.proofs.Common.{ℕ, List, [], ◌≡◌, ◌+◌, ◌*◌, ◌≤◌, ap, length, take, get_or, length-take-le, get_or-take, arith}
 use Rattle.forms.specs.Listed.{listed, listed_length}
+use Rattle.matrices.specs.Matrices.{cell}
 use Rattle.writing.specs.Put.{puts_bytes}
-use Rattle.entries.specs.Listing.{taken_listed}
-use Rattle.entries.specs.PutRows.{rows_start, rows_room, rows_turn, rows_end}
+use Rattle.entries.specs.PutRows.{Rows, rows_start, rows_room, rows_turn, rows_end}
 use Rattle.payloads.proofs.put_matrix.Goals as goal
 
-pub loop-i-init : goal.loop-i-init
-loop-i-init c = (search rules, rows_start (record { long = λ i. listed_length _ _; room = c.requires.1 }), refl)
+-- rows of n entries, with room for all of them
+rows : (at n : ℕ) (m : List (List ℕ)) (out : List ℕ) → at + n * n ≤ length out → Rows at n n (λ i. listed n (cell m i)) out
+rows at n m out room = record { long = λ i. listed_length _ _; room = room }
 
-pub slice_bounds-put_bytes-end : goal.slice_bounds-put_bytes-end
-slice_bounds-put_bytes-end c = sym (length-take-le _ _ (search rules))
+pub loop-row-init : goal.loop-row-init
+loop-row-init c = rows_start (rows c.args.at c.args.n c.args.m.now c.args.out.now c.requires.1)
 
-pub put_bytes-next-requires : goal.put_bytes-next-requires
-put_bytes-next-requires c =
-    let l = c.loop-i in
-    let many : length (take c.args.n c.row-entries.result) ≡ c.args.n = length-take-le _ _ (search rules) in
-    let room = rows_room (record { long = λ i. listed_length _ _; room = c.requires.1 }) (omega arith) l.invariant.1 l.invariant.2 in
-    omega (arith, many, room)
+pub put_row-next-requires : goal.put_row-next-requires
+put_row-next-requires c =
+    let many : length (take c.args.n c.args.m.now) ≡ c.args.n = length-take-le _ _ (omega arith) in
+    (c.requires.0, rows_room (rows c.args.at c.args.n c.args.m.now c.args.out.now c.requires.1) (omega arith) c.loop-row.invariant c.loop-row.auto.out)
 
-pub loop-i-preserved : goal.loop-i-preserved
-loop-i-preserved c =
-    let l = c.loop-i in
-    let w = c.put_bytes-next in
-    let r = c.row-entries in
-    let many : length (take c.args.n r.result) ≡ c.args.n = length-take-le _ _ (search rules) in
-    let bytes = taken_listed c.args.n r.result many ∙ ap (λ v. listed c.args.n (λ j. get_or v j 0)) r.ensures in
-    (search rules, rows_turn (record { long = λ i. listed_length _ _; room = c.requires.1 }) (omega arith) l.invariant.1 (puts_bytes bytes w.ensures), omega (arith, w.auto, l.invariant.2))
-
-pub shape_of-out : goal.shape_of-out
-shape_of-out c = c.loop-i.invariant.2
+pub loop-row-preserved : goal.loop-row-preserved
+loop-row-preserved c =
+    let l = c.loop-row in
+    let many : length (take c.args.n c.args.m.now) ≡ c.args.n = length-take-le _ _ (omega arith) in
+    rows_turn (rows c.args.at c.args.n c.args.m.now c.args.out.now c.requires.1) (omega arith) l.invariant
+    (puts_bytes (ap (λ (row : List ℕ). listed c.args.n (λ j. get_or row j 0)) (get_or-take c.args.n c.args.m.now l.row-index [] (omega arith))) c.put_row-next.ensures)
 
 pub returns : goal.returns
-returns c = let l = c.loop-i in rows_end (record { long = λ i. listed_length _ _; room = c.requires.1 }) l.invariant.0 c.loop-i-test.false l.invariant.1
+returns c =
+    let many : length (take c.args.n c.args.m.now) ≡ c.args.n = length-take-le _ _ (omega arith) in
+    rows_end (rows c.args.at c.args.n c.args.m.now c.args.out.now c.requires.1) (omega arith) (omega arith) c.loop-row.invariant

@@ -1,5 +1,5 @@
 -- The loop: the first r rows of n entries are put.
-use Rattle.std.proofs.Common.{ℕ, List, ◌+◌, ◌*◌, ◌≤◌, length, rules, arith, refl, mul_assoc}
+use Rattle.std.proofs.Common.{ℕ, List, ◌+◌, ◌*◌, ◌≤◌, length, arith, mul_assoc}
 use Rattle.forms.specs.Listed.{listed, listed_length}
 use Rattle.forms.specs.Certificate.{joined}
 use Rattle.entries.specs.Coefficients.{closed_entry}
@@ -14,21 +14,18 @@ pub factor-f-requires : goal.factor-f-requires
 factor-f-requires c = omega (arith, c.requires.3.F.entry 0 0)
 
 pub loop-r-init : goal.loop-r-init
-loop-r-init c = (search rules, rows_start (rows c.args.at c.args.n (closed_entry c.args.p c.args.s.now c.args.from.now c.args.last.now c.args.kind) c.args.out.now c.requires.1), refl)
+loop-r-init c = rows_start (rows c.args.at c.args.n (closed_entry c.args.p c.args.s.now c.args.from.now c.args.last.now c.args.kind) c.args.out.now c.requires.1)
 
 pub put_line-next-requires : goal.put_line-next-requires
 put_line-next-requires c =
     let l = c.loop-r in
-    (omega arith, c.requires.0, rows_room (rows c.args.at c.args.n (closed_entry c.args.p c.args.s.now c.args.from.now c.args.last.now c.args.kind) c.args.out.now c.requires.1) (omega arith) l.invariant.1 l.invariant.2, c.requires.2, c.requires.3, c.factor-f.ensures)
+    (omega arith, c.requires.0, rows_room (rows c.args.at c.args.n (closed_entry c.args.p c.args.s.now c.args.from.now c.args.last.now c.args.kind) c.args.out.now c.requires.1) (omega arith) l.invariant l.auto.out, c.requires.2, c.requires.3, c.factor-f.ensures)
 
 pub loop-r-preserved : goal.loop-r-preserved
 loop-r-preserved c =
     let l = c.loop-r in
     let w = c.put_line-next in
-    (search rules, rows_turn (rows c.args.at c.args.n (closed_entry c.args.p c.args.s.now c.args.from.now c.args.last.now c.args.kind) c.args.out.now c.requires.1) (omega arith) l.invariant.1 w.ensures, omega (arith, w.auto, l.invariant.2))
-
-pub shape_of-out : goal.shape_of-out
-shape_of-out c = c.loop-r.invariant.2
+    rows_turn (rows c.args.at c.args.n (closed_entry c.args.p c.args.s.now c.args.from.now c.args.last.now c.args.kind) c.args.out.now c.requires.1) (omega arith) l.invariant w.ensures
 
 pub returns : goal.returns
-returns c = let l = c.loop-r in rows_end (rows c.args.at c.args.n (closed_entry c.args.p c.args.s.now c.args.from.now c.args.last.now c.args.kind) c.args.out.now c.requires.1) l.invariant.0 c.loop-r-test.false l.invariant.1
+returns c = let l = c.loop-r in rows_end (rows c.args.at c.args.n (closed_entry c.args.p c.args.s.now c.args.from.now c.args.last.now c.args.kind) c.args.out.now c.requires.1) l.auto.r-end c.loop-r-test.false l.invariant

@@ -1,5 +1,4 @@
 -- The loop: the first r rows of n entries are put.
-use Rattle.std.proofs.Common.{◌≡◌, ◌≤◌, ◌-◌, length}
 use Rattle.forms.specs.Certificate.{joined}
 use Rattle.forms.specs.Listed.{listed}
 use Rattle.writing.specs.Put.{Puts}
@@ -7,7 +6,4 @@ use Rattle.entries.specs.Coefficients.{closed_entry}
 use Rattle.payloads.proofs.put_polynomials.Given as goal
 
 abbrev pub invariant-loop-r : goal.invariant-loop-r
-invariant-loop-r l = (l.r ≤ l.n) × Puts l.at (joined l.r (λ r. joined l.n (λ c. listed l.n (closed_entry l.p l.s l.from l.last l.kind r c)))) l.initial.out l.out l.next × (length l.out ≡ length l.initial.out)
-
-abbrev pub decreases-loop-r : goal.decreases-loop-r
-decreases-loop-r l = l.n - l.r
+invariant-loop-r l = Puts l.at (joined l.r (λ r. joined l.n (λ c. listed l.n (closed_entry l.p l.s l.from l.last l.kind r c)))) l.initial.out l.out l.next

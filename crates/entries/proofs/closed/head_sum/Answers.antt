@@ -1,33 +1,35 @@
--- The sum so far is the leading term and the first s of the others.
-use Rattle.std.proofs.Common.{rules, arith, ◌≡◌, ◌∙◌, ◌-◌, mul-le-mul, le_antisymm}
+-- The sum so far is the leading term and the others up to column j.
+use Rattle.std.proofs.Common.{ℕ, arith, ◌≡◌, ◌∙◌, ◌+◌, ◌*◌, ◌-◌, ◌≤◌, ap, ap₂, mul-le-mul}
 use Rattle.forms.specs.Numbers.{total}
+use Rattle.forms.specs.ClosedForms.{opposite}
+use Rattle.matrices.specs.Matrices.{cell}
 use Rattle.matrices.specs.Filling.{total_turn}
 use Rattle.entries.specs.Entries.{head_sum_is}
 use Rattle.entries.proofs.closed.head_sum.Goals as goal
 
-pub loop-s-init : goal.loop-s-init
+-- one term more
+more_terms : (lead n : ℕ) {sum term next : ℕ} (f : ℕ → ℕ) → sum ≡ lead + total n f → next ≡ n + 1 → term ≡ f n → sum + term ≡ lead + total next f
+more_terms lead n f e s t = rw (e, s, t, total_turn n f) (omega arith)
+
+pub loop-j-init : goal.loop-j-init
 unfolding total
-loop-s-init c = (search rules, omega (arith, c.wide-sum.ensures.1), omega (arith, c.wide-sum.ensures.0))
+loop-j-init c = let e : c.args.i - c.args.i ≡ 0 = omega arith in (omega arith, rw e (omega arith))
 
-pub opposite-requires : goal.opposite-requires
-opposite-requires c = c.requires.3.entry _ _
-
-pub overflow_mul-sum : goal.overflow_mul-sum
-overflow_mul-sum c = omega (arith, (mul-le-mul c.wide-x.ensures.1 c.wide-y.ensures.1))
-
-pub overflow_add-sum : goal.overflow_add-sum
-overflow_add-sum c = omega (arith, (mul-le-mul c.wide-x.ensures.1 c.wide-y.ensures.1), c.loop-s.invariant)
-
-pub loop-s-preserved : goal.loop-s-preserved
-loop-s-preserved c =
-    let l = c.loop-s in
-    (search rules, omega (arith, (mul-le-mul c.wide-x.ensures.1 c.wide-y.ensures.1), l.invariant.1), rw (l.invariant.2, c.wide-x.ensures.0, c.wide-y.ensures.0, c.opposite.ensures, total_turn) (omega arith))
+pub loop-j-preserved : goal.loop-j-preserved
+loop-j-preserved c =
+    let l = c.loop-j in
+    let a = c.args in
+    let j : l.j ≡ a.i + (l.j - a.i) = omega arith in
+    let product : c.from.result * c.from-in-loop-j.result ≤ 65025 = mul-le-mul {n₁ = c.from.result} {m₁ = c.from-in-loop-j.result} {n₂ = 255} {m₂ = 255} (omega arith) (omega arith) in (
+      omega arith,
+      more_terms _ (l.j - a.i) _ l.invariant.1 (omega arith)
+          (ap₂ ◌*◌ c.from.ensures (c.from-in-loop-j.ensures ∙ c.opposite.ensures) ∙ ap (λ (x : ℕ). cell a.t.now a.r x * opposite a.p (cell a.f.now (x + 1 + a.k) a.end)) j),
+    )
 
 pub remainder-requires : goal.remainder-requires
-remainder-requires c = (omega (arith, c.requires.3.entry 0 0), omega (arith, c.loop-s.invariant), c.requires.4)
+remainder-requires c = (omega (arith, c.requires.3.entry 0 0), omega arith, c.requires.4)
 
 pub returns : goal.returns
 returns c =
-    let l = c.loop-s in
-    let e : l.s ≡ c.args.end - c.args.i - c.args.k = le_antisymm l.invariant.0 (omega (arith, c.loop-s-test.false)) in
-    c.remainder.ensures ∙ rw (l.invariant.2, e) (head_sum_is _ _ _ _ _ _ _ c.requires.2)
+    let e : c.loop-j.j - c.args.i ≡ c.args.end - c.args.i - c.args.k = omega arith in
+    c.remainder.ensures ∙ rw (c.loop-j.invariant.1, e) (head_sum_is _ _ _ _ _ _ _ c.requires.2)

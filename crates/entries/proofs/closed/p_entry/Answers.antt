@@ -1,24 +1,16 @@
 -- The coefficients are put as far as the block goes; the others are zero.
-use Rattle.std.proofs.Common.{rules, arith, refl}
+use Rattle.std.proofs.Common.{◌-◌, rules, arith}
 use Rattle.entries.specs.Entries.{P_inside, P_short}
-use Rattle.entries.specs.PutEntries.{coefficients_none, coefficients_more, coefficients_next, coefficients_end}
+use Rattle.entries.specs.PutEntries.{coefficients_none, coefficients_more, coefficients_end}
 use Rattle.entries.proofs.closed.p_entry.Goals as goal
 
-pub loop-k-init : goal.loop-k-init
-loop-k-init c = (search rules, coefficients_none _, refl)
+pub loop-row-init : goal.loop-row-init
+loop-row-init c = (search rules, coefficients_none _ _ _ (omega arith))
 
-pub put_byte-next-requires : goal.put_byte-next-requires
-put_byte-next-requires c = omega (arith, c.requires.0, c.requires.2, c.loop-k-test.true, c.loop-k.invariant.2, coefficients_next _ c.loop-k.k c.loop-k.invariant.1)
-
-pub loop-k-preserved : goal.loop-k-preserved
-loop-k-preserved c = (
-  search rules,
-  coefficients_more _ c.loop-k.invariant.1 (P_inside c.args.ti.now c.args.end c.args.i c.args.c c.loop-k.k c.loop-k-test.true) c.put_byte-next.ensures (omega (arith, c.requires.0, c.loop-k.invariant.0)),
-  omega (arith, c.put_byte-next.auto, c.loop-k.invariant.2),
-)
-
-pub shape_of-out : goal.shape_of-out
-shape_of-out c = c.loop-k.invariant.2
+pub loop-row-preserved : goal.loop-row-preserved
+loop-row-preserved c =
+    let l = c.loop-row in
+    (search rules, coefficients_more _ _ _ (l.row - c.args.i) l.invariant.1 (P_inside _ _ _ _ l.row (omega arith) (omega arith)) (omega arith) (omega arith) (omega arith))
 
 pub returns : goal.returns
-returns c = coefficients_end _ c.loop-k.invariant.1 c.loop-k.invariant.0 (λ k h. P_short c.args.ti.now c.args.end c.args.i c.args.c k (omega (arith, c.loop-k-test.false)))
+returns c = coefficients_end _ _ _ (c.loop-row.row - c.args.i) c.loop-row.invariant.1 (omega arith) (λ k h. P_short _ _ _ _ k (omega arith))

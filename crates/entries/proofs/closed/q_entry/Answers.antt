@@ -20,11 +20,5 @@ overflow_sub-i c = omega (arith, begins_not_first _ _ (sym c.is_head.ensures ∙
 pub opposite-requires : goal.opposite-requires
 opposite-requires c = c.requires.6.entry _ _
 
-pub put_byte-requires : goal.put_byte-requires
-put_byte-requires c = omega (arith, c.requires.0, c.requires.4)
-
-pub shape_of-out : goal.shape_of-out
-shape_of-out c = omega (arith, c.put_byte.auto)
-
 pub returns : goal.returns
-returns c = one_coefficient _ c.put_byte.ensures (c.opposite.ensures ∙ Q_first _ _ _ _ _ _ (sym c.is_head.ensures ∙ c.if-is_head.false)) (omega (arith, c.requires.4)) (omega (arith, c.requires.0)) (Q_short _ _ _ _ _ _ (sym c.is_head.ensures ∙ c.if-is_head.false))
+returns c = one_coefficient _ _ _ (c.opposite.ensures ∙ Q_first _ _ _ _ _ _ (sym c.is_head.ensures ∙ c.if-is_head.false)) (omega arith) (omega arith) (Q_short _ _ _ _ _ _ (sym c.is_head.ensures ∙ c.if-is_head.false))

@@ -5,14 +5,8 @@ use Rattle.entries.specs.Entries.{QI_head_first, QI_head_short, QI_zero_first, Q
 use Rattle.entries.specs.PutEntries.{one_coefficient}
 use Rattle.entries.proofs.closed.qi_entry.Goals as goal
 
-pub put_byte-requires : goal.put_byte-requires
-put_byte-requires c = omega (arith, c.requires.0, c.requires.2)
-
-pub shape_of-out-then-is_head : goal.shape_of-out-then-is_head
-shape_of-out-then-is_head c = omega (arith, c.put_byte.auto)
-
 pub returns-then-is_head : goal.returns-then-is_head
-returns-then-is_head c = let head = sym c.is_head.ensures ∙ c.if-is_head.true in one_coefficient _ c.put_byte.ensures (QI_head_first _ _ _ _ _ _ head) (omega (arith, c.requires.2)) (omega (arith, c.requires.0)) (QI_head_short _ _ _ _ _ _ head)
+returns-then-is_head c = let head = sym c.is_head.ensures ∙ c.if-is_head.true in one_coefficient _ _ _ (QI_head_first _ _ _ _ _ _ head) (omega arith) (omega arith) (QI_head_short _ _ _ _ _ _ head)
 
 pub overflow_sub-i : goal.overflow_sub-i
 overflow_sub-i c = omega (arith, begins_not_first _ _ (sym c.is_head.ensures ∙ c.if-is_head.false))
@@ -20,14 +14,8 @@ overflow_sub-i c = omega (arith, begins_not_first _ _ (sym c.is_head.ensures ∙
 pub opposite-requires : goal.opposite-requires
 opposite-requires c = c.requires.6.entry _ _
 
-pub put_byte-requires-then-ti-end-eq0 : goal.put_byte-requires-then-ti-end-eq0
-put_byte-requires-then-ti-end-eq0 c = omega (arith, c.requires.0, c.requires.2)
-
-pub shape_of-out-then-ti-end-eq0 : goal.shape_of-out-then-ti-end-eq0
-shape_of-out-then-ti-end-eq0 c = omega (arith, c.put_byte-then-ti-end-eq0.auto)
-
 pub returns-then-ti-end-eq0 : goal.returns-then-ti-end-eq0
-returns-then-ti-end-eq0 c = let other = sym c.is_head.ensures ∙ c.if-is_head.false in one_coefficient _ c.put_byte-then-ti-end-eq0.ensures (c.opposite.ensures ∙ QI_zero_first _ _ _ _ _ _ other c.if-ti-end-eq0.true) (omega (arith, c.requires.2)) (omega (arith, c.requires.0)) (QI_zero_short _ _ _ _ _ _ other c.if-ti-end-eq0.true)
+returns-then-ti-end-eq0 c = let other = sym c.is_head.ensures ∙ c.if-is_head.false in one_coefficient _ _ _ (c.opposite.ensures ∙ QI_zero_first _ _ _ _ _ _ other c.if-ti-end-eq0.true) (omega arith) (omega arith) (QI_zero_short _ _ _ _ _ _ other c.if-ti-end-eq0.true)
 
 pub multiple_entry-requires : goal.multiple_entry-requires
 multiple_entry-requires c = (c.requires.0, c.requires.1, c.requires.2, c.requires.3, c.requires.4, sym c.is_head.ensures ∙ c.if-is_head.false, c.requires.5, c.requires.6, c.requires.7)
