@@ -7,7 +7,7 @@ use Rattle.forms.specs.Polynomials.{Coefficients}
 use Rattle.forms.specs.Matrices.{Entries, matrix, unit, characteristic}
 use Rattle.forms.specs.Tests.{cond_holds, cond_fails, equal_holds}
 use Rattle.forms.specs.Bounds.{characteristic_short}
-use Rattle.products.specs.Sums.{product_limit, coefficients, coefficients_small, shifted, shifted_inside, shifted_outside, monomial, monomial_same, monomial_other, monomial_none, monomial_small, plus_monomial, products}
+use Rattle.products.specs.Sums.{product_limit, shifted, shifted_inside, shifted_outside, monomial, monomial_same, monomial_other, monomial_none, monomial_small, plus_monomial, products}
 use Rattle.products.specs.Products.{ByteEntries}
 use Rattle.products.specs.Lines.{RoomFor, PlusLine, line_one, line_room, line_products_room}
 
@@ -26,11 +26,11 @@ pub record AddingField (p n x k l : ℕ) (a : List ℕ) (line : List (List ℕ))
   pub row : l < n
   pub has_room : RoomFor n 0 line
 
--- f, of n coefficients from start on, times row l of XE-A is added to a row
-pub record AddingMoved (p n start l : ℕ) (s a : List ℕ) (line : List (List ℕ)) : Type 0 where
+-- f times row l of XE-A is added to a row
+pub record AddingMoved (p n l : ℕ) (f a : List ℕ) (line : List (List ℕ)) : Type 0 where
   pub payload : FieldPayload p n a
   pub row : l < n
-  pub left_there : start + n ≤ length s
+  pub left_long : length f ≡ n
   pub has_room : RoomFor n (n * product_limit) line
 
 -- row i of P(XE-A), from the payloads of P and A
@@ -57,8 +57,8 @@ characteristic_bytes p A limited i j k = at_tests (eqb k 0) (eqb k 1)
     at_tests false false = omega arith
 
 -- there is room for the next coefficient of f
-pub moved_room : (p n start l : ℕ) (s a : List ℕ) (before line : List (List ℕ)) (k : ℕ) → AddingMoved p n start l s a before → ((i : ℕ) → at s i ≤ 255) → k < n → PlusLine n line before (λ j. products k (coefficients n start s) (characteristic p (matrix n a) l j)) → RoomFor n product_limit line
-moved_room p n start l s a before line k h bytes m q = line_products_room n _ _ k before line q (coefficients_small n start s bytes) (characteristic_bytes p (matrix n a) h.payload.limited l) m h.has_room
+pub moved_room : (p n l : ℕ) (f a : List ℕ) (before line : List (List ℕ)) (k : ℕ) → AddingMoved p n l f a before → ((i : ℕ) → at f i ≤ 255) → k < n → PlusLine n line before (λ j. products k (at f) (characteristic p (matrix n a) l j)) → RoomFor n product_limit line
+moved_room p n l f a before line k h bytes m q = line_products_room n _ _ k before line q bytes (characteristic_bytes p (matrix n a) h.payload.limited l) m h.has_room
 
 -- x X^k times row l of XE-A: of its columns, l has x at k + 1, and each has x times that of -A at k
 abbrev pub diagonal_term : ℕ → ℕ → ℕ → ℕ → Coefficients

@@ -7,42 +7,36 @@ ghost use Rattle.forms.specs.Rules.{polynomial_equal};
 ghost use Rattle.products.specs.Lines.{PlusLine, HoldingLine};
 ghost use Rattle.products.specs.Products.{Holding, same_modulo};
 ghost use Rattle.products.specs.Searches.{failing};
-ghost use Rattle.products.specs.Sums.{coefficients};
 ghost use Rattle.rules.specs.Moved.{AddingField, AddingMoved, Moving, field_term};
 ghost use Rattle.rules.specs.SmithEntries.{Returning, SmithPayloads, moved_entries, returned_entries};
 
 use crate::diagonal::polynomial_start;
 use forms::ORDER;
 use matrices::loading::field_entry;
-use matrices::wide;
-use products::{Line, Sums, TERMS, add_product, entry_start, is_equal};
+use products::{Line, Sums, TERMS, add_product, entry, is_equal};
 
 // Adds x X^k times row l of -A to the row.
 fn add_field_row(line: &mut Line, x: u32, k: usize, field: &[u8], l: usize, n: usize, p: u32)
     requires { AddingField p n x k l field.now line.old }
     ensures { PlusLine n line.new line.old (field_term p (matrix n field.now) x k l) }
 {
-    let mut j = 0;
-    while j < n {
-        let a = wide(field_entry(field, l, j, n));
-        line[j][k] = line[j][k] + x * (p - a);
-        j = j + 1;
+    for j in 0..n {
+        let a = u32::from(field_entry(field, l, j, n));
+        line[j][k] += x * (p - a);
     }
 }
 
-// Adds f times row l of XE-A to the row, where f has the n coefficients of `left` from `start` on.
-fn add_moved(line: &mut Line, left: &[u8], start: usize, field: &[u8], l: usize, n: usize, p: u32)
-    requires { AddingMoved p n start l left.now field.now line.old }
-    ensures { PlusLine n line.new line.old (λ j. convolution (coefficients n start left.now) (characteristic p (matrix n field.now) l j)) }
+// Adds f times row l of XE-A to the row.
+fn add_moved(line: &mut Line, f: &[u8], field: &[u8], l: usize, n: usize, p: u32)
+    requires { AddingMoved p n l f.now field.now line.old }
+    ensures { PlusLine n line.new line.old (λ j. convolution (at f.now) (characteristic p (matrix n field.now) l j)) }
 {
-    let mut k = 0;
-    while k < n {
-        let x = wide(left[start + k]);
+    for (k, x) in f.iter().enumerate() {
+        let x = u32::from(*x);
         if x != 0 {
-            line[l][k + 1] = line[l][k + 1] + x;
+            line[l][k + 1] += x;
             add_field_row(line, x, k, field, l, n, p);
         }
-        k = k + 1;
     }
 }
 
@@ -52,10 +46,8 @@ fn moved_line(left: &[u8], field: &[u8], i: usize, n: usize, p: u32) -> Line
     ensures { HoldingLine n result (moved_entries p n left.now field.now i) }
 {
     let mut line = [[0u32; TERMS]; ORDER];
-    let mut l = 0;
-    while l < n {
-        add_moved(&mut line, left, entry_start(i, l, n), field, l, n, p);
-        l = l + 1;
+    for l in 0..n {
+        add_moved(&mut line, entry(left, i, l, n), field, l, n, p);
     }
     line
 }
@@ -66,14 +58,11 @@ fn returned_entry(form: &[u8], right: &[u8], i: usize, j: usize, n: usize) -> Su
     ensures { Holding result (returned_entries n form.now right.now i j) }
 {
     let mut sums = [0u32; TERMS];
+    let start = polynomial_start(i, n);
     add_product(
         &mut sums,
-        form,
-        polynomial_start(i, n),
-        n + 1,
-        right,
-        entry_start(i, j, n),
-        n,
+        &form[start..start + n + 1],
+        entry(right, i, j, n),
     );
     sums
 }
@@ -95,25 +84,28 @@ fn is_returned(
     is_equal(moved, &returned, n, p)
 }
 
-// Rule 6, with the payloads of P, A, D and QI: 6 at the first wrong entry, else 0.
-pub fn smith_rule(left: &[u8], field: &[u8], form: &[u8], right: &[u8], n: usize, p: u32) -> u8
+// Rule 6, with the payloads of P, A, D and QI. The first wrong entry ends the search with the rule.
+pub fn smith_rule(
+    left: &[u8],
+    field: &[u8],
+    form: &[u8],
+    right: &[u8],
+    n: usize,
+    p: u32,
+) -> Result<(), u8>
     requires { SmithPayloads p n left.now field.now form.now right.now }
     ensures { result ≡ failing (polynomial_equal p n (polynomial_product n (polynomial_matrix n left.now) (characteristic p (matrix n field.now))) (polynomial_product n (diagonal_matrix (diagonal n form.now)) (polynomial_matrix n right.now))) 6 }
 {
-    let mut i = 0;
-    let failed = 'rows: loop {
-        if n <= i {
-            break 'rows 0;
-        }
-        let line = moved_line(left, field, i, n, p);
-        let mut j = 0;
-        while j < n {
-            if !is_returned(&line[j], form, right, i, j, n, p) {
-                break 'rows 6;
+    let failed = 'rows: {
+        for i in 0..n {
+            let line = moved_line(left, field, i, n, p);
+            for j in 0..n {
+                if !is_returned(&line[j], form, right, i, j, n, p) {
+                    break 'rows Err(6);
+                }
             }
-            j = j + 1;
         }
-        i = i + 1;
+        Ok(())
     };
     failed
 }

@@ -1,12 +1,8 @@
 -- One coefficient of each entry is added to, from the front, and no sum overflows.
-use Rattle.std.proofs.Common.{◌-◌, ◌≤◌}
 use Rattle.forms.specs.Matrices.{matrix}
 use Rattle.products.specs.Lines.{PlusLine}
 use Rattle.rules.specs.Moved.{field_term}
 use Rattle.rules.proofs.smith.add_field_row.Given as goal
 
 abbrev pub invariant-loop-j : goal.invariant-loop-j
-invariant-loop-j l = (l.j ≤ l.n) × PlusLine l.j l.line l.initial.line (field_term l.p (matrix l.n l.field) l.x l.k l.l)
-
-abbrev pub decreases-loop-j : goal.decreases-loop-j
-decreases-loop-j l = l.n - l.j
+invariant-loop-j l = PlusLine l.j l.line l.initial.line (field_term l.p (matrix l.n l.field) l.x l.k l.l)

@@ -1,12 +1,8 @@
 -- The row is the sum over the inner index, and after l turns each entry the sum of its first l terms.
-use Rattle.std.proofs.Common.{◌-◌, ◌≤◌}
 use Rattle.forms.specs.Matrices.{matrix, polynomial_matrix, characteristic}
 use Rattle.products.specs.Products.{partial}
 use Rattle.products.specs.Lines.{HoldingLine}
 use Rattle.rules.proofs.smith.moved_line.Given as goal
 
 abbrev pub invariant-loop-l : goal.invariant-loop-l
-invariant-loop-l l = (l.l ≤ l.n) × HoldingLine l.n l.line (partial l.l (polynomial_matrix l.n l.left) (characteristic l.p (matrix l.n l.field)) l.i)
-
-abbrev pub decreases-loop-l : goal.decreases-loop-l
-decreases-loop-l l = l.n - l.l
+invariant-loop-l l = HoldingLine l.n l.line (partial l.l (polynomial_matrix l.n l.left) (characteristic l.p (matrix l.n l.field)) l.i)

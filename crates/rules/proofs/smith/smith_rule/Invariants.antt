@@ -1,17 +1,11 @@
 -- Rows and columns are searched up to the first entry that differs.
-use Rattle.std.proofs.Common.{◌≡◌, true, ◌-◌, ◌≤◌}
+use Rattle.std.proofs.Common.{◌≡◌, true}
 use Rattle.forms.specs.Numbers.{every}
 use Rattle.rules.specs.SmithEntries.{smith_entry_test}
 use Rattle.rules.proofs.smith.smith_rule.Given as goal
 
 abbrev pub invariant-loop-j : goal.invariant-loop-j
-invariant-loop-j l = (l.j ≤ l.n) × (every l.j (smith_entry_test l.p l.n l.left l.field l.form l.right l.i) ≡ true)
+invariant-loop-j l = every l.j (smith_entry_test l.p l.n l.left l.field l.form l.right l.i) ≡ true
 
-abbrev pub decreases-loop-j : goal.decreases-loop-j
-decreases-loop-j l = l.n - l.j
-
-abbrev pub invariant-rows : goal.invariant-rows
-invariant-rows l = (l.i ≤ l.n) × (every l.i (λ a. every l.n (smith_entry_test l.p l.n l.left l.field l.form l.right a)) ≡ true)
-
-abbrev pub decreases-rows : goal.decreases-rows
-decreases-rows l = l.n - l.i
+abbrev pub invariant-loop-i : goal.invariant-loop-i
+invariant-loop-i l = every l.i (λ a. every l.n (smith_entry_test l.p l.n l.left l.field l.form l.right a)) ≡ true
