@@ -34,17 +34,11 @@ pub struct Division {
 fn trimmed(coefficients: [u8; COEFFICIENTS]) -> Polynomial
     ensures { TrimmedFrom coefficients result }
 {
-    let mut len = COEFFICIENTS;
-    while 0 < len {
-        if coefficients[len - 1] != 0 {
-            return Polynomial { coefficients, len };
-        }
-        len = len - 1;
-    }
-    Polynomial {
-        coefficients,
-        len: 0,
-    }
+    let len = coefficients
+        .iter()
+        .rposition(|c| *c != 0)
+        .map_or(0, |k| k + 1);
+    Polynomial { coefficients, len }
 }
 
 // The polynomial whose coefficients are the `count` bytes of s from `from` on.
@@ -53,11 +47,7 @@ pub fn from_coefficients(s: &[u8], from: usize, count: usize) -> Polynomial
     ensures { TakenFrom s.now from count result }
 {
     let mut coefficients = [0u8; COEFFICIENTS];
-    let mut i = 0;
-    while i < count {
-        coefficients[i] = s[from + i];
-        i = i + 1;
-    }
+    coefficients[..count].copy_from_slice(&s[from..from + count]);
     trimmed(coefficients)
 }
 
@@ -66,13 +56,9 @@ fn less_multiple(r: [u8; COEFFICIENTS], f: Polynomial, k: usize, c: u8, p: u8) -
     requires { (0 < p) × (c ≤ p) × (k + f.len ≤ coefficient_limit) }
     ensures { Lessened p r f.coefficients k c f.len result }
 {
-    let divisor = f.coefficients;
-    let count = f.len;
     let mut d = r;
-    let mut i = 0;
-    while i < count {
-        d[k + i] = plus_multiple(r[k + i], p - c, divisor[i], p);
-        i = i + 1;
+    for i in 0..f.len {
+        d[k + i] = plus_multiple(r[k + i], p - c, f.coefficients[i], p);
     }
     d
 }
@@ -82,21 +68,15 @@ pub fn divide(g: Polynomial, f: Polynomial, p: u8) -> Division
     requires { T (prime p) × Canonical p g × Canonical p f × (0 < f.len) }
     ensures { Divided p g f result }
 {
-    let divisor = f.coefficients;
-    let count = f.len;
-    let lead = count - 1;
-    let reciprocal = reciprocal_of(divisor[lead], p);
+    let lead = f.len - 1;
+    let reciprocal = reciprocal_of(f.coefficients[lead], p);
     let mut quotient = [0u8; COEFFICIENTS];
     let mut remainder = g.coefficients;
-    let mut top = g.len;
-    while count <= top {
-        let last = top - 1;
-        let k = top - count;
+    for last in (lead..g.len).rev() {
+        let k = last - lead;
         let c = plus_multiple(0, remainder[last], reciprocal, p);
         quotient[k] = c;
-        let rest = less_multiple(remainder, f, k, c, p);
-        remainder = rest;
-        top = last;
+        remainder = less_multiple(remainder, f, k, c, p);
     }
     Division {
         quotient: trimmed(quotient),
@@ -109,7 +89,5 @@ pub fn divides(f: Polynomial, g: Polynomial, p: u8) -> bool
     requires { T (prime p) × Canonical p f × Canonical p g × (0 < f.len) }
     ensures { T result ↔ Divides (polynomials (modulo p)) (polynomial p f) (polynomial p g) }
 {
-    let division = divide(g, f, p);
-    let remainder = division.remainder;
-    remainder.len == 0
+    divide(g, f, p).remainder.len == 0
 }

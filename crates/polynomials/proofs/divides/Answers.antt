@@ -6,4 +6,4 @@ use Rattle.polynomials.proofs.divides.Goals as goal
 pub returns : goal.returns
 returns c =
     let pre = c.requires in
-    divides_by_remainder (prime_means _ pre.0) pre.1 pre.3 c.divide-division.ensures
+    divides_by_remainder (prime_means _ pre.0) pre.1 pre.3 c.divide.ensures

@@ -5,12 +5,12 @@ use Rattle.polynomials.specs.Subtraction.{lessened_start, lessened_turn}
 use Rattle.polynomials.proofs.less_multiple.Goals as goal
 
 pub loop-i-init : goal.loop-i-init
-loop-i-init c = (search rules, lessened_start)
+loop-i-init c = lessened_start
 
 pub loop-i-preserved : goal.loop-i-preserved
 loop-i-preserved c =
     let long : length c.args.r ≡ coefficient_limit = search rules in
-    (search rules, lessened_turn (omega arith) c.loop-i.invariant.1 c.plus_multiple.ensures)
+    lessened_turn (omega arith) c.loop-i.invariant c.plus_multiple.ensures
 
 pub returns : goal.returns
-returns c = rw (le_antisymm c.loop-i-test.false c.loop-i.invariant.0) c.loop-i.invariant.1
+returns c = rw (le_antisymm c.loop-i-test.false c.loop-i.auto.i-end) c.loop-i.invariant

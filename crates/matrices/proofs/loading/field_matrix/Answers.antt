@@ -8,6 +8,3 @@ loop-i-init c = fill_start _ _
 
 pub loop-i-preserved : goal.loop-i-preserved
 loop-i-preserved c = fill_turn _ _ _ (search rules) c.loop-i.invariant c.field_row.ensures
-
-pub returns : goal.returns
-returns c = fill_end _ _ c.loop-i.invariant c.loop-i.auto.i-end c.loop-i-test.false

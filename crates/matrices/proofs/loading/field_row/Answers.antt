@@ -8,6 +8,3 @@ loop-j-init c = fill_start _ _
 
 pub loop-j-preserved : goal.loop-j-preserved
 loop-j-preserved c = fill_turn _ _ _ (search rules) c.loop-j.invariant c.field_entry.ensures
-
-pub returns : goal.returns
-returns c = fill_end _ _ c.loop-j.invariant c.loop-j.auto.j-end c.loop-j-test.false
