@@ -1,6 +1,6 @@
 -- The verdict from what was read and what the rules came to.
 use Rattle.std.specs.Prelude.{◌≡◌, List, ℕ, length, Result, Ok, Err, IsErrAnd}
-use Rattle.std.proofs.Common.{sym, ◌∙◌, ap₂, subst}
+use Rattle.std.proofs.Common.{sym, ◌∙◌, ap₂}
 use Rattle.std.proofs.Math.Path.{ap}
 use Rattle.forms.specs.Answers.{Asked, fine, refuse}
 use Rattle.forms.specs.Reading.{reading, certificate_of}

@@ -21,7 +21,7 @@ fn diagonal_rules(s: &[u8]) -> Result<(), u8>
     ensures { Searched (certificate_of s.now) 3 result }
 {
     let order = s[5];
-    let n = usize::from(order);
+    let n = order as usize;
     let p = s[4];
     let form = payload(s, order, Record::DF);
     let degrees = degrees_of(form, n);
@@ -36,13 +36,20 @@ fn smith_rules(s: &[u8]) -> Result<(), u8>
     ensures { Searched (certificate_of s.now) 6 result }
 {
     let order = s[5];
-    let n = usize::from(order);
-    let p = u32::from(s[4]);
+    let n = order as usize;
+    let p = s[4] as u32;
     let left = payload(s, order, Record::PL);
     inverse_rule(left, payload(s, order, Record::PI), n, p, 4)?;
     let back = payload(s, order, Record::QI);
     inverse_rule(payload(s, order, Record::QR), back, n, p, 5)?;
-    smith_rule(left, payload(s, order, Record::MA), payload(s, order, Record::DF), back, n, p)
+    smith_rule(
+        left,
+        payload(s, order, Record::MA),
+        payload(s, order, Record::DF),
+        back,
+        n,
+        p,
+    )
 }
 
 // Rules 7 to 9, where those before hold.
@@ -51,7 +58,7 @@ fn frobenius_rules(s: &[u8]) -> Result<(), u8>
     ensures { Searched (certificate_of s.now) 9 result }
 {
     let order = s[5];
-    let n = usize::from(order);
+    let n = order as usize;
     let p = s[4];
     let form = payload(s, order, Record::DF);
     let blocks = payload(s, order, Record::FB);
@@ -76,6 +83,8 @@ pub fn check(certificate: &[u8]) -> Result<u64, Fault>
     ensures { Checks certificate.now result }
 {
     read_certificate(certificate)?;
-    failing_rule(certificate).map_err(Fault::Rule)?;
-    Ok(certificate.len() as u64)
+    match failing_rule(certificate) {
+        Ok(()) => Ok(certificate.len() as u64),
+        Err(rule) => Err(Fault::Rule(rule)),
+    }
 }

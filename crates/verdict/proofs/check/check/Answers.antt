@@ -2,22 +2,15 @@
 use Rattle.verdict.specs.Verdicts.{unread, fine_reading, rule_verdict, accepted_verdict}
 use Rattle.verdict.proofs.check.check.Goals as goal
 
-pub returns-in_default : goal.returns-in_default
-returns-in_default c =
-    let s = c.args.certificate.now in
-    unread s _ _ c.read_certificate-read.ensures _ c.in_default.is _ c.reading_verdict.ensures
+pub returns-in_err-read_certificate : goal.returns-in_err-read_certificate
+returns-in_err-read_certificate c =
+    unread c.args.certificate.now _ _ c.read_certificate.ensures c.in_err-read_certificate.was _ c.from_residual.ensures.1
 
-pub failing_rule-rule-requires : goal.failing_rule-rule-requires
-failing_rule-rule-requires c =
-    let s = c.args.certificate.now in
-    fine_reading s _ _ c.read_certificate-read.ensures _ c.in-Good.is
+pub failing_rule-requires : goal.failing_rule-requires
+failing_rule-requires c = fine_reading c.args.certificate.now _ _ c.read_certificate.ensures c.in_ok-read_certificate.was
 
-pub returns-then-rule-ne0 : goal.returns-then-rule-ne0
-returns-then-rule-ne0 c =
-    let s = c.args.certificate.now in
-    rule_verdict s _ _ c.read_certificate-read.ensures _ c.in-Good.is _ c.failing_rule-rule.ensures c.if-rule-ne0.true
+pub returns-in-Ok : goal.returns-in-Ok
+returns-in-Ok c = accepted_verdict c.args.certificate.now _ _ c.read_certificate.ensures c.in_ok-read_certificate.was c.in-Ok.ensures
 
-pub returns : goal.returns
-returns c =
-    let s = c.args.certificate.now in
-    accepted_verdict s _ _ c.read_certificate-read.ensures _ c.in-Good.is (rw c.if-rule-ne0.false at c.failing_rule-rule.ensures)
+pub returns-in-Err : goal.returns-in-Err
+returns-in-Err c = rule_verdict c.args.certificate.now _ _ c.read_certificate.ensures c.in_ok-read_certificate.was c.in-Err.rule c.in-Err.ensures

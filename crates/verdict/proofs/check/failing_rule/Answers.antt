@@ -1,18 +1,18 @@
 -- The three searches in turn: what has failed stays the answer.
-use Rattle.verdict.specs.NineRules.{searched_stays}
+use Rattle.verdict.specs.NineRules.{searched_held, searched_stays}
 use Rattle.verdict.proofs.check.failing_rule.Goals as goal
 
-pub returns-then-diagonal-ne0 : goal.returns-then-diagonal-ne0
-returns-then-diagonal-ne0 c = searched_stays _ 3 6 _ c.diagonal_rules-diagonal.ensures c.if-diagonal-ne0.true
+pub returns-in_err-diagonal_rules : goal.returns-in_err-diagonal_rules
+returns-in_err-diagonal_rules c = searched_stays _ 3 6 _ _ c.diagonal_rules.ensures c.in_err-diagonal_rules.was c.from_residual.ensures.1
 
-pub smith_rules-smith-requires : goal.smith_rules-smith-requires
-smith_rules-smith-requires c = (c.requires, c.diagonal_rules-diagonal.ensures.held c.if-diagonal-ne0.false)
+pub smith_rules-requires : goal.smith_rules-requires
+smith_rules-requires c = (c.requires, searched_held _ 3 _ c.diagonal_rules.ensures c.in_ok-diagonal_rules.was)
 
-pub returns-then-smith-ne0 : goal.returns-then-smith-ne0
-returns-then-smith-ne0 c = searched_stays _ 6 3 _ c.smith_rules-smith.ensures c.if-smith-ne0.true
+pub returns-in_err-smith_rules : goal.returns-in_err-smith_rules
+returns-in_err-smith_rules c = searched_stays _ 6 3 _ _ c.smith_rules.ensures c.in_err-smith_rules.was c.from_residual-in_err-smith_rules.ensures.1
 
 pub frobenius_rules-requires : goal.frobenius_rules-requires
-frobenius_rules-requires c = (c.requires, c.smith_rules-smith.ensures.held c.if-smith-ne0.false)
+frobenius_rules-requires c = (c.requires, searched_held _ 6 _ c.smith_rules.ensures c.in_ok-smith_rules.was)
 
 pub returns : goal.returns
 returns c = c.frobenius_rules.ensures
