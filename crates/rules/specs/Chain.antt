@@ -1,5 +1,5 @@
 -- Rule 2 in code: the polynomials that are taken from the payload of D are its entries, and the test of divisibility is the rule's.
-use Rattle.std.specs.Prelude.{◌≡◌, ◌↔◌, Bool, List, ℕ, suc, ◌<◌, T}
+use Rattle.std.specs.Prelude.{◌≡◌, ◌↔◌, Bool, List, ℕ, suc, ◌+◌, ◌<◌, T}
 use Rattle.std.proofs.Common.{sym, ◌∙◌, ap, arith, zero-add}
 use Rattle.std.proofs.Math.Decide.{dec_lt, dec_le}
 use Rattle.algebra.specs.Divides.{Divides}
@@ -17,7 +17,7 @@ use Rattle.polynomials.specs.Rule.{answer_is_test}
 use Rattle.rules.specs.Diagonal.{MonicPayload, CoefficientsOf, coefficient_small}
 
 -- x is taken from the n + 1 coefficients s of f_i
-module _ (p n : ℕ) (d : List ℕ) (h : MonicPayload p n d) (i count : ℕ) (s : List ℕ) (x : Polynomial) (of : CoefficientsOf n d i s) (c : count ≡ suc n) (taken : TakenFrom s 0 count x) where
+module _ (p n : ℕ) (d : List ℕ) (h : MonicPayload p n d) {i : ℕ} {s : List ℕ} {x : Polynomial} (of : CoefficientsOf n d i s) (taken : TakenFrom s 0 (n + 1) x) where
   pub taken_coefficients : (k : ℕ) → at x.coefficients k ≡ diagonal n d i k
   taken_coefficients k = elim (dec_le k n) [
     | yes l ↦ taken.copied.inside k (omega arith) ∙ ap (at s) (zero-add k) ∙ of.coefficient k

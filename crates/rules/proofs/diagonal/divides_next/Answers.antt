@@ -5,19 +5,16 @@ use Rattle.rules.proofs.diagonal.divides_next.Goals as goal
 
 pub divides-requires : goal.divides-requires
 divides-requires c =
-    let a = c.args in let h = c.requires.0 in let one = add-one a.n in
-    let second = rw (add-one a.i) at c.polynomial-2.ensures in (
+    let a = c.args in let h = c.requires.0 in let f = c.polynomial.ensures in let x = c.from_coefficients-f.ensures in (
       h.prime_p,
-      taken_residues a.p a.n a.form.now h a.i _ _ _ c.polynomial.ensures one c.from_coefficients-f.ensures,
-      taken_residues a.p a.n a.form.now h _ _ _ _ c.polynomial-2.ensures one c.from_coefficients-g.ensures,
-      taken_some a.p a.n a.form.now h a.i _ _ _ c.polynomial.ensures one c.from_coefficients-f.ensures (omega (arith, c.requires.1)),
+      taken_residues a.p a.n a.form.now h f x,
+      taken_residues a.p a.n a.form.now h c.polynomial-2.ensures c.from_coefficients-g.ensures,
+      taken_some a.p a.n a.form.now h f x (omega (arith, c.requires.1)),
     )
 
 pub returns : goal.returns
 returns c =
-    let a = c.args in let h = c.requires.0 in let one = add-one a.n in
-    let second = rw (add-one a.i) at c.polynomial-2.ensures in
+    let a = c.args in let h = c.requires.0 in let second = rw (add-one a.i) at c.polynomial-2.ensures in let y = c.from_coefficients-g.ensures in
     chain_test a.p a.n a.form.now h a.i (omega (arith, c.requires.1)) c.from_coefficients-f.result c.from_coefficients-g.result
-    (taken_coefficients a.p a.n a.form.now h a.i _ _ _ c.polynomial.ensures one c.from_coefficients-f.ensures)
-    (taken_coefficients a.p a.n a.form.now h _ _ _ _ second one c.from_coefficients-g.ensures)
-    (taken_residues a.p a.n a.form.now h _ _ _ _ second one c.from_coefficients-g.ensures) _ c.divides.ensures
+    (taken_coefficients a.p a.n a.form.now h c.polynomial.ensures c.from_coefficients-f.ensures)
+    (taken_coefficients a.p a.n a.form.now h second y) (taken_residues a.p a.n a.form.now h second y) _ c.divides.ensures

@@ -2,7 +2,7 @@
 use Rattle.std.proofs.Common.{eqb, eq-eqb, ne_eqb}
 use Rattle.matrices.specs.Filling.{every_start, every_turn}
 use Rattle.matrices.specs.Matrices.{cell}
-use Rattle.products.specs.Searches.{every_all, all_passed, entry_failed}
+use Rattle.products.specs.Searches.{every_all, entry_failed}
 use Rattle.rules.proofs.field.differing.Goals as goal
 
 pub loop-i-init : goal.loop-i-init
@@ -21,6 +21,3 @@ pub returns-then-a-i : goal.returns-then-a-i
 returns-then-a-i c =
     let a = c.args in
     entry_failed a.n (λ i j. eqb (cell a.a i j) (cell a.b i j)) a.rule c.loop-i.i c.loop-j.j c.loop-i-test.true c.loop-j-test.true (ne_eqb _ _ c.if-a-i.true)
-
-pub returns-after-loop-i : goal.returns-after-loop-i
-returns-after-loop-i c = let l = c.loop-i in all_passed _ _ c.args.rule l.i l.invariant l.auto.i-end c.loop-i-test.false

@@ -1,7 +1,7 @@
 -- Rows and columns are searched up to the first entry that is not that of the form.
 use Rattle.std.proofs.Common.{sym, ◌∙◌, eq-eqb, ne_eqb}
 use Rattle.matrices.specs.Filling.{every_start, every_turn}
-use Rattle.products.specs.Searches.{every_all, all_passed, entry_failed}
+use Rattle.products.specs.Searches.{every_all, entry_failed}
 use Rattle.rules.specs.FrobeniusSearch.{built_test, built_entry}
 use Rattle.rules.proofs.frobenius.frobenius_rule.Goals as goal
 
@@ -10,9 +10,6 @@ loop-i-init c = every_start _
 
 pub loop-j-init : goal.loop-j-init
 loop-j-init c = every_start _
-
-pub frobenius_entry-requires : goal.frobenius_entry-requires
-frobenius_entry-requires c = (c.requires.0.payload, c.requires.1, c.requires.0.small)
 
 pub loop-j-preserved : goal.loop-j-preserved
 loop-j-preserved c =
@@ -27,6 +24,3 @@ returns-then-field_entry-frobenius_entry c =
     let a = c.args in
     entry_failed a.n (built_test a.p a.n a.form.now a.field.now) 7 c.loop-i.i c.loop-j.j c.loop-i-test.true c.loop-j-test.true
     (sym (built_entry a.p a.n a.form.now a.field.now c.requires.0 c.loop-i.i c.loop-j.j _ _ c.field_entry.ensures c.frobenius_entry.ensures) ∙ ne_eqb _ _ c.if-field_entry-frobenius_entry.true)
-
-pub returns-after-loop-i : goal.returns-after-loop-i
-returns-after-loop-i c = let l = c.loop-i in all_passed _ _ 7 l.i l.invariant l.auto.i-end c.loop-i-test.false
