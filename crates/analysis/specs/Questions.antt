@@ -1,18 +1,16 @@
 -- The questions of the analysis, one after the other: what each refusal comes to, and that there is none.
-use Rattle.std.specs.Prelude.{◌≡◌, refl, List, ◌++◌, ℕ, ◌*◌, ◌≤◌, ◌<◌, eqb, ltb, leb, length, drop}
+use Rattle.std.specs.Prelude.{◌≡◌, List, ℕ, ◌*◌, ◌≤◌, ◌<◌, eqb, ltb, leb, length}
 use Rattle.std.proofs.Common.{sym, ◌∙◌, mul-le-mul, arith, eqb→eq, le→leb}
 use Rattle.std.proofs.Math.Path.{ap}
 use Rattle.std.proofs.Math.Dec.{leb→le}
 use Rattle.forms.specs.Numbers.{at, order_limit, prime_limit}
-use Rattle.forms.specs.Answers.{Asked, fine, refuse, ◌then◌, ask, each, asked_number, asked_place}
-use Rattle.forms.specs.Certificate.{Certificate, layout, certificate_length}
+use Rattle.forms.specs.Answers.{Asked, fine, refuse, ◌then◌, ask, each}
+use Rattle.forms.specs.Certificate.{certificate_length}
 use Rattle.forms.specs.Reading.{order_and_prime}
-use Rattle.forms.specs.Operations.{analysis_asked, Analyses}
-use Rattle.forms.specs.Words.{LaidOut, Certified}
-use Rattle.forms.specs.Tests.{refuse_not_fine, equal_holds, ask_fine, fine_ask, refuse_ask, then_fine, fine_then, refuse_then}
+use Rattle.forms.specs.Operations.{analysis_asked}
+use Rattle.forms.specs.Tests.{equal_holds, ask_fine, fine_ask, refuse_ask, then_fine, fine_then, refuse_then}
 use Rattle.forms.specs.Primes.{prime_limited}
 use Rattle.forms.proofs.Layouts.{order_and_prime_means}
-use Rattle.forms.specs.declared.Analysed.TheVariants.{Written, Refused}
 
 module _ (n p : ℕ) (limits : order_and_prime n p ≡ fine) where
   pub order_kept : n ≤ order_limit
@@ -67,25 +65,3 @@ module _ (p n : ℕ) (A : List ℕ) (room : ℕ) where
   pub asked_room : analysis_asked p n A room ≡ fine → certificate_length n ≤ room
   unfolding analysis_asked
   asked_room e = leb→le (certificate_length n) room (ask_fine (leb (certificate_length n) room) 5 (certificate_length n) (then_fine (order_and_prime n p then many then small (n * n)) roomy e).1)
-
--- what the analysis promises is kept, where it refuses and where it writes
-module _ (p n : ℕ) (A before : List ℕ) where
-  abbrev asked : Asked
-  asked = analysis_asked p n A (length before)
-
-  pub analyses_refused : {number place : ℕ} → asked ≡ refuse number place → Analyses p n A before before (Refused number place)
-  analyses_refused {number} {place} e = record {
-    refused = λ x y f. (let q : refuse number place ≡ refuse x y = sym e ∙ f in (cc, refl));
-    written = λ f. absurd (refuse_not_fine number place (sym e ∙ f));
-    number = sym (ap asked_number e);
-    place = sym (ap (λ (q : Asked). asked_place q (certificate_length n)) e);
-  }
-
-  pub analyses_written : {after : List ℕ} {length_written : ℕ} → asked ≡ fine → length_written ≡ certificate_length n
-      → ((c : Certificate) × (after ≡ layout c ++ drop (certificate_length n) before) × LaidOut c × Certified p n A c) → Analyses p n A before after (Written length_written)
-  analyses_written e z done = record {
-    refused = λ x y f. absurd (refuse_not_fine x y (sym f ∙ e));
-    written = λ f. (ap Written z, done);
-    number = sym (ap asked_number e);
-    place = z ∙ sym (ap (λ (q : Asked). asked_place q (certificate_length n)) e);
-  }

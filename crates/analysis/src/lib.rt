@@ -8,9 +8,8 @@ ghost use Rattle.forms.specs.Operations.{Analyses};
 ghost use Rattle.forms.specs.LegalRequests.{Legal};
 
 use crate::questions::analysis_asked;
-use certificate::limits::Limits;
 use elimination::elimination::reduce;
-use forms::Analysed;
+use forms::Refusal;
 use heads::{last_rows, order};
 use matrices::loading::field_matrix;
 use payloads::put_records;
@@ -30,12 +29,9 @@ fn write(p: u8, n: u8, matrix: &[u8], out: &mut [u8]) -> usize
 }
 
 // The public operation: refusals 1 to 5 in this order, and else the certificate.
-pub fn analysis(p: u64, n: u64, matrix: &[u8], out: &mut [u8]) -> Analysed
+pub fn analysis(p: u64, n: u64, matrix: &[u8], out: &mut [u8]) -> Result<u64, Refusal>
     ensures { Analyses p n matrix.now out.old out.new result }
 {
-    let asked = analysis_asked(p, n, matrix, out.len());
-    if let Limits::Refused { number, place } = asked {
-        return Analysed::Refused { number, place };
-    }
-    Analysed::Written(write(p as u8, n as u8, matrix, out) as u64)
+    analysis_asked(p, n, matrix, out.len())?;
+    Ok(write(p as u8, n as u8, matrix, out) as u64)
 }

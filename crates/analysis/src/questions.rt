@@ -5,50 +5,43 @@ ghost use Rattle.forms.specs.Answers.{ask, each};
 ghost use Rattle.forms.specs.Operations.{analysis_asked};
 ghost use Rattle.certificate.specs.ReadRecords.{limits_asked};
 
-use certificate::limits::{Limits, order_and_prime};
-use certificate::records::{RECORDS, record_start};
+use certificate::limits::order_and_prime;
+use certificate::records::Record;
+use forms::{Reason, Refusal};
 
 // The first entry at or above p is refused.
-fn entries_asked(matrix: &[u8], p: u8) -> Limits
+fn entries_asked(matrix: &[u8], p: u8) -> Result<(), Refusal>
     ensures { limits_asked result ≡ each (length matrix.now) (λ i. ask (ltb (at matrix.now i) p) 4 i) }
 {
-    let mut i = 0;
-    while i < matrix.len() {
-        if p <= matrix[i] {
-            return Limits::Refused {
-                number: 4,
+    for (i, entry) in matrix.iter().enumerate() {
+        if p <= *entry {
+            return Err(Refusal {
+                reason: Reason::EntryTooLarge,
                 place: i as u64,
-            };
+            });
         }
-        i = i + 1;
     }
-    Limits::Kept
+    Ok(())
 }
 
-pub fn analysis_asked(p: u64, n: u64, matrix: &[u8], room: usize) -> Limits
+pub fn analysis_asked(p: u64, n: u64, matrix: &[u8], room: usize) -> Result<(), Refusal>
     ensures { limits_asked result ≡ analysis_asked p n matrix.now room }
 {
-    let limits = order_and_prime(n, p);
-    let Limits::Kept = limits else {
-        return limits;
-    };
+    order_and_prime(n, p)?;
     let rows = n as usize;
     if matrix.len() != rows * rows {
-        return Limits::Refused {
-            number: 3,
+        return Err(Refusal {
+            reason: Reason::MatrixLength,
             place: matrix.len() as u64,
-        };
+        });
     }
-    let entries = entries_asked(matrix, p as u8);
-    let Limits::Kept = entries else {
-        return entries;
-    };
-    let needed = record_start(n as u8, RECORDS);
+    entries_asked(matrix, p as u8)?;
+    let needed = Record::TI.end(n as u8);
     if room < needed {
-        return Limits::Refused {
-            number: 5,
+        return Err(Refusal {
+            reason: Reason::OutputTooShort,
             place: needed as u64,
-        };
+        });
     }
-    Limits::Kept
+    Ok(())
 }

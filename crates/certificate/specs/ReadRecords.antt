@@ -32,11 +32,19 @@ abbrev pub read_of : Asked → ℕ → Result Cursor Fault
 read_of fine next = Ok (record { at = next })
 read_of (refuse number place) next = Err (Form (reason_of number) place)
 
+-- an error that is known
+pub error_is : {A B : Type 0} (q : Result A B) {e : B} → IsErrAnd q (λ (x : B). x ≡ e) → q ≡ Err e
+error_is (Ok a) h = absurd h
+error_is (Err x) h = ap Err h
+
+-- a refusal that is handed on
+pub refusal_kept : (r : Refusal) (q : Result (Unit {0}) Refusal) {a : Asked} → refused_by r ≡ a → IsErrAnd q (λ (x : Refusal). x ≡ r) → limits_asked q ≡ a
+refusal_kept r q e h = ap limits_asked (error_is q h) ∙ e
+
 -- a refusal is the fault that a reading makes of it
 pub read_refused : (r : Refusal) (read : Result Cursor Fault) (q : Asked) (next : ℕ) → refused_by r ≡ q → IsErrAnd read (λ (fault : Fault). fault ≡ form_fault r) → read ≡ read_of q next
-read_refused r (Ok c) q next e h = absurd h
-read_refused r (Err fault) q next e h =
-    ap Err (h ∙ sym (ap (λ (x : Reason). Form x r.place) (reason_of_number r.reason))) ∙ ap (λ (x : Asked). read_of x next) e
+read_refused r read q next e h =
+    error_is read h ∙ ap (λ (x : Reason). Err (Form x r.place)) (sym (reason_of_number r.reason)) ∙ ap (λ (x : Asked). read_of x next) e
 
 -- record k, which starts at start and has a payload of many bytes, up to the payload
 unfoldable pub frame_asked : ℕ → ℕ → ℕ → List ℕ → Asked

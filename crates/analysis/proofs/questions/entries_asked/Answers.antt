@@ -1,5 +1,5 @@
 -- The loop: the first i entries refuse nothing.
-use Rattle.std.proofs.Common.{rules, arith, refl, sym, ◌∙◌, ap, ℕ, ◌≤◌, ◌<◌, le_antisymm, ltb, ltb→lt, lt→ltb}
+use Rattle.std.proofs.Common.{arith, refl, sym, ◌≡◌, ◌∙◌, ap, ℕ, ◌≤◌, ◌<◌, length, ltb, ltb→lt, lt→ltb}
 use Rattle.forms.specs.Numbers.{at}
 use Rattle.forms.specs.Answers.{ask, each}
 use Rattle.forms.specs.Tests.{fine_ask, refuse_ask, each_fine, refuse_each}
@@ -8,25 +8,26 @@ use Rattle.analysis.proofs.questions.entries_asked.Goals as goal
 
 pub loop-i-init : goal.loop-i-init
 unfolding each
-loop-i-init c = (search rules, refl)
+loop-i-init c = refl
 
-pub returns-then-p-matrix : goal.returns-then-p-matrix
-returns-then-p-matrix c =
+pub returns-then-p-entry : goal.returns-then-p-entry
+returns-then-p-entry c =
     let l = c.loop-i in
     let a = c.args in
-    let large : a.p ≤ at a.matrix.now l.i = c.if-p-matrix.true in
+    let large : a.p ≤ at a.matrix.now l.i = c.if-p-entry.true in
     let refused = refuse_ask (ltb (at a.matrix.now l.i) a.p) 4 l.i (λ t. (let h = ltb→lt (at a.matrix.now l.i) a.p t in omega arith)) in
-    sym (refuse_each _ _ l.i 4 l.i c.loop-i-test.true (each_fine l.i _ l.invariant.1) refused)
+    sym (refuse_each _ _ l.i 4 l.i c.loop-i-test.true (each_fine l.i _ l.invariant) refused)
 
 pub loop-i-preserved : goal.loop-i-preserved
 loop-i-preserved c =
     let l = c.loop-i in
     let a = c.args in
-    let small : at a.matrix.now l.i < a.p = c.if-p-matrix.false in
-    (search rules, each_next l.i _ l.invariant.1 (fine_ask (ltb (at a.matrix.now l.i) a.p) 4 l.i (lt→ltb (at a.matrix.now l.i) a.p small)))
+    let small : at a.matrix.now l.i < a.p = c.if-p-entry.false in
+    each_next l.i _ l.invariant (fine_ask (ltb (at a.matrix.now l.i) a.p) 4 l.i (lt→ltb (at a.matrix.now l.i) a.p small))
 
 pub returns : goal.returns
 returns c =
     let l = c.loop-i in
     let a = c.args in
-    sym (ap (λ (z : ℕ). each z (λ i. ask (ltb (at a.matrix.now i) a.p) 4 i)) (le_antisymm c.loop-i-test.false l.invariant.0) ∙ l.invariant.1)
+    let all : length a.matrix.now ≡ l.i = omega arith in
+    sym (ap (λ (z : ℕ). each z (λ i. ask (ltb (at a.matrix.now i) a.p) 4 i)) all ∙ l.invariant)
