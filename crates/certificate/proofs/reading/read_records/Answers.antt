@@ -1,26 +1,23 @@
 -- The loop: the first records refuse nothing, and the cursor stands where the next one starts.
-use Rattle.std.proofs.Common.{arith, refl, sym, ◌∙◌, ap₂, ◌+◌, ◌≡◌, get_or, take}
+use Rattle.std.proofs.Common.{arith, refl, sym, ◌∙◌, ap₂, ◌+◌}
 use Rattle.forms.specs.Numbers.{at}
 use Rattle.forms.specs.Answers.{each}
 use Rattle.forms.specs.Certificate.{offset}
 use Rattle.forms.specs.Reading.{record_asked}
-use Rattle.certificate.specs.Numbering.{number_of, records, first_records, number_among}
+use Rattle.certificate.specs.Numbering.{first_records, number_among}
 use Rattle.certificate.specs.declared.records.Record.TheVariants.{HD}
 use Rattle.certificate.specs.Sizes.{offset_zero}
 use Rattle.certificate.specs.ReadRecords.{good_read, read_here, each_next, records_bad, records_after, records_fine}
 use Rattle.certificate.proofs.reading.read_records.Goals as goal
-use Rattle.certificate.proofs.reading.read_records.Goals.{After-read_record-arg-1}
 
 pub loop-record-init : goal.loop-record-init
 unfolding each
 loop-record-init c = (offset_zero (at c.args.s.now 5), refl)
 
--- the record that a turn reads has the number of the turn
-here : (c : After-read_record-arg-1) → number_of (get_or (take c.args.count records) c.loop-record.record-index HD) ≡ c.loop-record.record-index
-here c = number_among c.args.count c.requires c.loop-record.record-index HD c.loop-record-test.true
-
 pub read_record-read-requires : goal.read_record-read-requires
-read_record-read-requires c = c.loop-record.invariant.0 ∙ sym (ap₂ offset c.byte-n.ensures (here c))
+read_record-read-requires c =
+    let here = number_among c.args.count c.requires c.loop-record.record-index HD c.loop-record-test.true in
+    c.loop-record.invariant.0 ∙ sym (ap₂ offset c.byte-n.ensures here)
 
 pub returns-in_default : goal.returns-in_default
 returns-in_default c =
