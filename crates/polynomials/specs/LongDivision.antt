@@ -12,8 +12,8 @@ use Rattle.forms.specs.Reciprocals.{InverseOf}
 use Rattle.polynomials.specs.declared.Polynomial.{Polynomial}
 use Rattle.polynomials.specs.declared.Division.{Division}
 use Rattle.polynomials.specs.Monomials.{monomial, monomial_same, monomial_other}
-use Rattle.polynomials.specs.Canonical.{coefficient_limit, polynomial_of, polynomial_of_at, polynomial, Canonical, trimmed_upto}
-use Rattle.polynomials.specs.Taking.{TrimmedFrom, zeros, zeros_at}
+use Rattle.polynomials.specs.Canonical.{coefficient_limit, polynomial_of, polynomial_of_at, polynomial, Canonical}
+use Rattle.polynomials.specs.Taking.{zeros, zeros_at}
 use Rattle.polynomials.specs.Subtraction.{Lessened, lessened_inside, lessened_small, lessened_polynomial}
 
 module _ (p : ℕ) where
@@ -116,17 +116,3 @@ module _ (p : ℕ) where
           ∙ ap₂ (λ x y. x *ᵖ polynomial_of p f.coefficients +ᵖ y) (sym (polynomial_of_set q k c (omega (arith, D.q_long)) (D.q_free k (omega arith))))
           (sym (lessened_polynomial p r f.coefficients k c f.len d L (positive p P) (omega (arith, c_small)) F.trimmed.rest));
     }
-
-  trimmed_canonical : (s : List ℕ) (f : Polynomial) → ((k : ℕ) → at s k < p) → TrimmedFrom s f → Canonical p f
-  trimmed_canonical s f small t = record { trimmed = t.trimmed; small = λ k. rw t.same (small k) }
-
-  pub dividing_end : {g f : Polynomial} {top : ℕ} {q r : List ℕ} → Dividing g.coefficients f.coefficients f.len top q r → top < f.len
-      → {x : Division} → TrimmedFrom q x.quotient → TrimmedFrom r x.remainder → Divided g f x
-  dividing_end {g} {f} {top} {q} {r} D l {x} s t =
-      let upto = trimmed_upto x.remainder t.trimmed top (λ k m. rw t.same (D.r_rest k m)) in
-      record {
-        quotient = trimmed_canonical q x.quotient D.q_small s;
-        remainder = trimmed_canonical r x.remainder D.r_small t;
-        smaller = omega arith;
-        equation = rw (s.same, t.same) D.equation;
-      }

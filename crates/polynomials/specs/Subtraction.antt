@@ -1,8 +1,8 @@
 -- One step of long division: what r - c X^k f is, byte by byte, and as a polynomial.
-use Rattle.std.specs.Prelude.{◌≡◌, refl, List, ℕ, ◌+◌, ◌*◌, ◌-◌, ◌%◌, ◌≤◌, ◌<◌, length, set}
+use Rattle.std.specs.Prelude.{◌≡◌, List, ℕ, ◌+◌, ◌*◌, ◌-◌, ◌%◌, ◌≤◌, ◌<◌, length}
 use Rattle.std.proofs.Math.Path.{sym, ap, ap₂, subst}
-use Rattle.std.proofs.Common.{◌∙◌, mod-lt, length-set, get_or-set_same, get_or-set_other}
-use Rattle.std.proofs.Math.Decide.{dec_lt, ℕ_discrete}
+use Rattle.std.proofs.Common.{◌∙◌, mod-lt}
+use Rattle.std.proofs.Math.Decide.{dec_lt}
 use native.Mathlib.Omega.{arith}
 use Rattle.algebra.specs.Ring.{plus_zero, times_zero, minus_zero, minus_times}
 use Rattle.algebra.specs.Polynomial as algebra
@@ -18,21 +18,6 @@ pub record Lessened (p : ℕ) (r f : List ℕ) (k c count : ℕ) (d : List ℕ) 
   pub before : (j : ℕ) → j < k → at d j ≡ at r j
   pub inside : (j : ℕ) → j < count → at d (k + j) ≡ (at r (k + j) + (p - c) * at f j) % p
   pub behind : (j : ℕ) → k + count ≤ j → at d j ≡ at r j
-
-pub lessened_start : {p : ℕ} {r f : List ℕ} {k c : ℕ} → Lessened p r f k c 0 r
-lessened_start = record { long = refl; before = λ j l. refl; inside = λ j l. absurd (omega arith); behind = λ j l. refl }
-
-pub lessened_turn : {p : ℕ} {r f : List ℕ} {k c i : ℕ} {d : List ℕ} {x : ℕ} → k + i < length r → Lessened p r f k c i d → x ≡ (at r (k + i) + (p - c) * at f i) % p
-    → Lessened p r f k c (i + 1) (set d (k + i) x)
-lessened_turn {p} {r} {f} {k} {c} {i} {d} {x} l h e = record {
-  long = length-set d (k + i) x ∙ h.long;
-  before = λ j m. get_or-set_other d (k + i) j x 0 (omega arith) ∙ h.before j m;
-  inside = λ j m. elim (ℕ_discrete j i) [
-    | yes q ↦ subst (λ (y : ℕ). at (set d (k + i) x) (k + y) ≡ (at r (k + y) + (p - c) * at f y) % p) (sym q) (get_or-set_same d (k + i) x 0 (omega (arith, h.long)) ∙ e)
-    | no o ↦ get_or-set_other d (k + i) (k + j) x 0 (omega arith) ∙ h.inside j (omega arith)
-  ];
-  behind = λ j m. get_or-set_other d (k + i) j x 0 (omega arith) ∙ h.behind j (omega arith);
-}
 
 module _ (p : ℕ) (r f : List ℕ) (k c count : ℕ) (d : List ℕ) (h : Lessened p r f k c count d) (positive : 0 < p) where
   open modulo p use {plus as ◌⊕◌, times as ◌⊗◌, minus as ⊖◌}
