@@ -1,8 +1,8 @@
 -- Two places exchanged: the permutation, what it makes of a list, and the change of basis.
-use Rattle.std.specs.List.{swap}
-use Rattle.std.proofs.lemmas.List.Edits.{swap_is}
 use Rattle.std.specs.Prelude.{◌≡◌, ◌≢◌, List, ℕ, ◌≤◌, ◌<◌, length, get_or, set}
+use Rattle.std.specs.List.{swap}
 use Rattle.std.proofs.Common.{sym, ◌∙◌, ap, arith, length-set, get_or-set_same, get_or-set_other}
+use Rattle.std.proofs.lemmas.List.Edits.{swap_is}
 use Rattle.std.proofs.Math.Decide.{ℕ_discrete}
 use Rattle.algebra.specs.Choice.{put, put_same, put_other}
 use Rattle.algebra.specs.Ring.{Ring}

@@ -1,6 +1,6 @@
 -- The state in another order of the basis vectors: what moved columns and rows say of field matrices, and two of them exchanged.
-use Rattle.std.specs.List.{swap}
 use Rattle.std.specs.Prelude.{◌≡◌, List, [], ℕ, ◌≤◌, ◌<◌, get_or}
+use Rattle.std.specs.List.{swap}
 use Rattle.std.proofs.Common.{sym, ◌∙◌, ap, arith}
 use Rattle.forms.specs.Numbers.{order_limit}
 use Rattle.algebra.specs.Modular.{residue, modulo}

@@ -1,4 +1,4 @@
--- The loop adds up the rows of m, each as often as v says.
+-- The loop adds up the rows of x, each as often as v says.
 use Rattle.std.proofs.Common.{rules, le_antisymm}
 use Rattle.basis.specs.Steps.{combining_start, combining_turn, combining_end}
 use Rattle.basis.proofs.steps.combination.Goals as goal
