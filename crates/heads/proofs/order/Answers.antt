@@ -1,9 +1,9 @@
 -- The first i rows stand at their places.
-use Rattle.std.proofs.Common.{sym, arith, subst, ℕ, length-set}
+use Rattle.std.proofs.Common.{sym, arith, ℕ, length-set}
 use lib.ListN.{length-replicate}
 use Rattle.forms.specs.Numbers.{order_limit}
 use Rattle.matrices.specs.Filling.{total_turn}
-use Rattle.heads.specs.Heads.{no_others, other_is, other_most, others_most, Ordered, ordered_start, ordered_turn, place_is, place_below}
+use Rattle.heads.specs.Heads.{no_others, other_is, other_most, others_most, ordered_start, ordered_turn, place_is, place_below}
 use Rattle.heads.proofs.order.Goals as goal
 
 pub loop-i-init : goal.loop-i-init
@@ -27,6 +27,3 @@ loop-i-preserved c =
     let l = c.loop-i in
     let e = place_is c.args.f.now c.args.n l.i c.others-ones.ensures l.invariant.0 c.place.ensures in
     (rw (l.invariant.0, other_is c.args.f.now l.i c.is_head.ensures c.from-passed.ensures) (sym (total_turn l.i _)), ordered_turn c.args.f.now c.args.n l.invariant.2 c.requires.0 (omega arith) e l.invariant.1, simp length-set l.invariant.2)
-
-pub returns : goal.returns
-returns c = let l = c.loop-i in let a = c.args in subst (λ (k : ℕ). Ordered a.f.now a.n k l.rows) (omega arith) l.invariant.1
