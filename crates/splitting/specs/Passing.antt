@@ -1,5 +1,5 @@
 -- The pass in code: what its steps say of the state.
-use Rattle.std.specs.Prelude.{◌≡◌, ◌≢◌, true, false, List, [], ℕ, suc, ◌+◌, ◌≤◌, ◌<◌, get_or, Option, Some, None}
+use Rattle.std.specs.Prelude.{◌≡◌, ◌≢◌, true, List, [], ℕ, suc, ◌+◌, ◌≤◌, ◌<◌, get_or, Option, Some, None}
 use Rattle.std.specs.Option.{is_some}
 use Rattle.std.proofs.Common.{sym, ◌∙◌, ap, ap₂, subst, add-one, arith}
 use Rattle.std.proofs.Math.Decide.{ℕ_discrete}
@@ -12,8 +12,7 @@ use Rattle.basis.specs.Replace.{Replaced}
 use Rattle.splitting.specs.Pass.{Ready, Passed, passed_start, passed_then, Pulled, push_passes, pull_pulls, Chained, pass_ends}
 use Rattle.basis.specs.State.{Array, State, frame, frame_within, Given, prime_distinct, zero_entry, entry_nonzero, nonzero_entry, column_vector}
 use Rattle.ordering.specs.Orders.{InOrder}
-use Rattle.basis.specs.Searches.{column_of, column_of_at, FirstNonzero}
-use Rattle.splitting.specs.Finding.{Found}
+use Rattle.basis.specs.Searches.{column_of, column_of_at, FirstNonzero, Found}
 use Rattle.splitting.specs.Reaching.{HasPivot}
 
 module _ (p n k j q : ℕ) (s : State) (g : Given p n k s) (r : Ready (modulo p) k j (frame p n s)) (l : q < k) (f : FirstNonzero (λ i. cell (get_or s 0 []) i j) (j + 1) k q) where
@@ -49,11 +48,6 @@ pub chain_end : (p n k j : ℕ) (s t : State) → Given p n k t → j < k → ((
     → Passed (modulo p) n k 0 (frame p n s) j j (frame p n t) → Chained (modulo p) n k (frame p n s) (suc j) (frame p n t)
 chain_end p n k j s t g l z x = pass_ends (modulo p) (prime_distinct p g.prime_p) n k j (frame p n s) (frame p n t) l x (λ i a b.
     zero_entry p n (get_or t 0 []) i j (omega (arith, g.fits)) (omega (arith, g.fits)) (z i (omega arith) (omega arith)))
-
--- what a search that found nothing says
-pub found_none : (x : ℕ → ℕ) (from k : ℕ) (r : Option ℕ) → Found x from k r → false ≡ is_some r → (t : ℕ) → from ≤ t → t < k → x t ≡ 0
-found_none x from k (Some q) f e = absurd (false≢true e)
-found_none x from k None f e = f.zeros
 
 -- how far the pivots go
 pub reach_pivot : (k j : ℕ) (b : Array) (r : Option ℕ) → Found (λ i. cell b i j) (j + 1) k r → is_some r ≡ true → HasPivot k b j

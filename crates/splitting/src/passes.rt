@@ -5,9 +5,10 @@ ghost use Rattle.algebra.specs.Modular.{modulo};
 ghost use Rattle.matrices.specs.Matrices.{cell};
 ghost use Rattle.splitting.specs.Pass.{Ready, Chained};
 ghost use Rattle.basis.specs.State.{frame, Fields, Given};
-ghost use Rattle.splitting.specs.Finding.{Found};
+ghost use Rattle.basis.specs.Searches.{Found};
 ghost use Rattle.splitting.specs.Reaching.{Reach};
 
+use basis::remainders::Modulus;
 use basis::steps::{State, column, replace};
 use matrices::Mat;
 use ordering::exchange::exchange_vectors;
@@ -21,9 +22,9 @@ pub fn first_pivot(b: &Mat, j: usize, k: usize) -> Option<usize>
 }
 
 // From column 0 on, as far as there are pivots: the first pivot of column j comes to row j + 1, and column j takes the place of e_(j+1).
-pub fn chain(mut s: State, k: usize, n: usize, p: u8) -> State
-    requires { Given p n k s × (0 < k) × Ready (modulo p) k 0 (frame p n s) }
-    ensures { Fields p n result × ((m : ℕ) × Chained (modulo p) n k (frame p n s) m (frame p n result)) }
+pub fn chain(mut s: State, k: usize, n: usize, modulus: Modulus) -> State
+    requires { Given modulus.p n k s × (0 < k) × Ready (modulo modulus.p) k 0 (frame modulus.p n s) }
+    ensures { Fields modulus.p n result × ((m : ℕ) × Chained (modulo modulus.p) n k (frame modulus.p n s) m (frame modulus.p n result)) }
 {
     for j in 0..k - 1 {
         let Some(q) = first_pivot(&s[0], j, k) else {
@@ -34,7 +35,7 @@ pub fn chain(mut s: State, k: usize, n: usize, p: u8) -> State
             s = pulled;
         }
         let w = column(&s[0], j, n);
-        let next = replace(s, j + 1, w, n, p);
+        let next = replace(s, j + 1, w, n, modulus);
         s = next;
     }
     s
