@@ -94,9 +94,8 @@ impl Reduction<'_> {
         requires { (start + self.now.n ≤ length out.old) × (end < self.now.n) × (i < self.now.n) × (c < self.now.n) }
         ensures { ShortPut start self.now.n (P_coefficient (get_or self.now.state.now 2 []) end i c) out.old out.new }
     {
-        let ti = &self.state[2];
         for row in i..end + 1 {
-            out[start + row - i] = ti[row][c];
+            out[start + row - i] = self.state[2][row][c];
         }
     }
 
