@@ -1,12 +1,14 @@
 -- The coefficients of D, P, Q and their inverses as the code computes them, from F, T and the inverse of T: row i of F ends its block at row
 -- `end`; `from` has the row of F for each row of D, and `last` the end of each row's block.
-use Rattle.std.specs.Prelude.{Bool, true, false, cond, List, [], ℕ, ◌+◌, ◌*◌, ◌-◌, ◌%◌, ◌≤◌, ◌<◌, eqb, leb, get_or, replicate}
+use Rattle.std.specs.Prelude.{cond, List, [], ℕ, ◌+◌, ◌*◌, ◌-◌, ◌%◌, ◌≤◌, ◌<◌, eqb, leb, get_or, replicate}
 use Rattle.forms.specs.Numbers.{at, total, order_limit}
 use Rattle.forms.specs.Polynomials.{Coefficients}
 use Rattle.forms.specs.ClosedForms.{opposite}
 use Rattle.matrices.specs.Matrices.{cell}
 use Rattle.basis.specs.State.{Array, State}
 use Rattle.heads.specs.Heads.{begins}
+use Rattle.entries.specs.declared.closed.Factor.{Factor}
+use Rattle.entries.specs.declared.closed.Factor.TheVariants.{P, PInverse, Q, QInverse}
 
 -- every entry is a residue
 pub record Small (p : ℕ) (m : Array) : Type 0 where
@@ -54,26 +56,32 @@ QI_coefficient p F TI end i c k =
     let last = cell TI end c in
     cond (begins F i) (cond (eqb k 0) last 0) ((cond (eqb k 0) (p - cell TI (i - 1) c) 0 + block_coefficient p F end (i + k) * last) % p)
 
--- coefficient k of the entry (r, c) of the matrix that record 3, 4, 5 or 6 holds; row i of F belongs to row r of P and of the inverse of Q,
--- and to column c of the other two
-unfoldable pub closed_coefficient : ℕ → State → ℕ → ℕ → ℕ → ℕ → ℕ → ℕ → ℕ
-closed_coefficient p s i end kind r c k =
-    let F = get_or s 0 [] in let T = get_or s 1 [] in let TI = get_or s 2 [] in
-    cond (eqb kind 3) (P_coefficient TI end i c k)
-    (cond (eqb kind 4) (PI_coefficient p F T r i k)
-    (cond (eqb kind 5) (Q_coefficient p F T end r i k) (QI_coefficient p F TI end i c k)))
+-- coefficient k of the entry (r, c) of P, Q or an inverse; row i of F belongs to row r of P and of the inverse of Q, and to column c of the
+-- other two
+unfoldable pub closed_coefficient : ℕ → State → ℕ → ℕ → Factor → ℕ → ℕ → ℕ → ℕ
+closed_coefficient p s i end P r c k = P_coefficient (get_or s 2 []) end i c k
+closed_coefficient p s i end PInverse r c k = PI_coefficient p (get_or s 0 []) (get_or s 1 []) r i k
+closed_coefficient p s i end Q r c k = Q_coefficient p (get_or s 0 []) (get_or s 1 []) end r i k
+closed_coefficient p s i end QInverse r c k = QI_coefficient p (get_or s 0 []) (get_or s 2 []) end i c k
 
-unfoldable pub side : ℕ → ℕ → ℕ → ℕ
-side kind r c = cond (eqb kind 3) r (cond (eqb kind 6) r c)
+abbrev pub side : Factor → ℕ → ℕ → ℕ
+side P r c = r
+side PInverse r c = c
+side Q r c = c
+side QInverse r c = r
 
-unfoldable pub closed_entry : ℕ → State → List ℕ → List ℕ → ℕ → ℕ → ℕ → Coefficients
-closed_entry p s from last kind r c = let i = at from (side kind r c) in closed_coefficient p s i (at last i) kind r c
+unfoldable pub closed_entry : ℕ → State → List ℕ → List ℕ → Factor → ℕ → ℕ → Coefficients
+closed_entry p s from last factor r c = let i = at from (side factor r c) in closed_coefficient p s i (at last i) factor r c
 
-pub side_below : (n kind r c : ℕ) → r < n → c < n → side kind r c < n
-unfolding side
-side_below n kind r c l g = test (eqb kind 3) (eqb kind 6)
-  where
-    test : (a b : Bool) → cond a r (cond b r c) < n
-    test true b = l
-    test false true = l
-    test false false = g
+-- the record that holds the matrix
+unfoldable pub record_of : Factor → ℕ
+record_of P = 3
+record_of PInverse = 4
+record_of Q = 5
+record_of QInverse = 6
+
+pub side_below : (n : ℕ) (factor : Factor) (r c : ℕ) → r < n → c < n → side factor r c < n
+side_below n P r c l g = l
+side_below n PInverse r c l g = g
+side_below n Q r c l g = g
+side_below n QInverse r c l g = l

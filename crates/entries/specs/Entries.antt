@@ -1,7 +1,7 @@
 -- Which coefficients of an entry of P, Q and their inverses can be other than zero, and what each of them is.
 use Rattle.std.proofs.Math.Path.{◌≡◌, refl, sym, ap, ap₂, fun_ext}
 use Rattle.std.proofs.Common.{◌∙◌, add-zero, zero-add, zero-mul, mul-one, one-mul, mod-eq_of_lt}
-use Rattle.std.specs.Prelude.{Bool, cond, [], eqb, get_or}
+use Rattle.std.specs.Prelude.{Bool, cond, eqb}
 use Rattle.std.proofs.Math.Bool.{true, false}
 use Prim.Native.Nat.{ℕ, suc, ◌+◌, ◌*◌, ◌-◌, ◌%◌, ◌≤◌, ◌<◌}
 use Rattle.std.proofs.Math.Nat.{mul-zero, zero-mod}
@@ -11,9 +11,9 @@ use Rattle.forms.specs.Numbers.{total}
 use Rattle.forms.specs.Tests.{total_suc, total_equal, total_of_zeros, total_short}
 use Rattle.forms.specs.ClosedForms.{opposite}
 use Rattle.matrices.specs.Matrices.{cell}
-use Rattle.basis.specs.State.{Array, State}
+use Rattle.basis.specs.State.{Array}
 use Rattle.heads.specs.Heads.{begins}
-use Rattle.entries.specs.Coefficients.{block_coefficient, P_coefficient, PI_coefficient, head_sum, Q_coefficient, QI_coefficient, closed_coefficient}
+use Rattle.entries.specs.Coefficients.{block_coefficient, P_coefficient, PI_coefficient, head_sum, Q_coefficient, QI_coefficient}
 
 -- the polynomial of a block
 module _ (p : ℕ) (F : Array) (end : ℕ) where
@@ -142,23 +142,3 @@ module _ (p : ℕ) (F TI : Array) (end i c : ℕ) where
 
       pub QI_zero_short : (k : ℕ) → 1 ≤ k → QI_coefficient p F TI end i c k ≡ 0
       QI_zero_short k l = sym (later k l) ∙ ap (λ (x : ℕ). x % p) (ap (λ (x : ℕ). block_coefficient p F end (i + k) * x) z ∙ mul-zero _) ∙ zero-mod p
-
--- the entry by the record that holds it
-module _ (p : ℕ) (s : State) (i end kind r c : ℕ) where
-  pub P_kind : kind ≡ 3 → closed_coefficient p s i end kind r c ≡ P_coefficient (get_or s 2 []) end i c
-  unfolding closed_coefficient
-  P_kind e = fun_ext (λ k. simp (eq-eqb kind 3 e))
-
-  module _ (a : kind ≡ 3 → ⊥) where
-    pub PI_kind : kind ≡ 4 → closed_coefficient p s i end kind r c ≡ PI_coefficient p (get_or s 0 []) (get_or s 1 []) r i
-    unfolding closed_coefficient
-    PI_kind e = fun_ext (λ k. simp (ne_eqb kind 3 a, eq-eqb kind 4 e))
-
-    module _ (b : kind ≡ 4 → ⊥) where
-      pub Q_kind : kind ≡ 5 → closed_coefficient p s i end kind r c ≡ Q_coefficient p (get_or s 0 []) (get_or s 1 []) end r i
-      unfolding closed_coefficient
-      Q_kind e = fun_ext (λ k. simp (ne_eqb kind 3 a, ne_eqb kind 4 b, eq-eqb kind 5 e))
-
-      pub QI_kind : (kind ≡ 5 → ⊥) → closed_coefficient p s i end kind r c ≡ QI_coefficient p (get_or s 0 []) (get_or s 2 []) end i c
-      unfolding closed_coefficient
-      QI_kind d = fun_ext (λ k. simp (ne_eqb kind 3 a, ne_eqb kind 4 b, ne_eqb kind 5 d))

@@ -2,7 +2,7 @@
 use Rattle.std.proofs.Common.{◌-◌, rules, arith}
 use Rattle.entries.specs.Entries.{P_inside, P_short}
 use Rattle.entries.specs.PutEntries.{coefficients_none, coefficients_more, coefficients_end}
-use Rattle.entries.proofs.closed.p_entry.Goals as goal
+use Rattle.entries.proofs.closed.Reduction.p_entry.Goals as goal
 
 pub loop-row-init : goal.loop-row-init
 loop-row-init c = (search rules, coefficients_none _ _ _ (omega arith))

@@ -3,22 +3,19 @@ use Rattle.std.proofs.Common.{arith, sym, ◌∙◌}
 use Rattle.heads.specs.Heads.{begins_not_first}
 use Rattle.entries.specs.Entries.{Q_head, Q_first, Q_short}
 use Rattle.entries.specs.PutEntries.{one_coefficient}
-use Rattle.entries.proofs.closed.q_entry.Goals as goal
-
-pub head_entry-requires : goal.head_entry-requires
-head_entry-requires c = (c.requires.0, c.requires.1, c.requires.2, c.requires.3, c.requires.4, c.requires.5, c.requires.7)
+use Rattle.entries.proofs.closed.Reduction.q_entry.Goals as goal
 
 pub shape_of-out-then-is_head : goal.shape_of-out-then-is_head
 shape_of-out-then-is_head c = omega (arith, c.head_entry.auto)
 
 pub returns-then-is_head : goal.returns-then-is_head
-returns-then-is_head c = rw (← Q_head c.args.p c.args.f.now c.args.t.now c.args.end c.args.r c.args.i (sym c.is_head.ensures ∙ c.if-is_head.true)) c.head_entry.ensures
+returns-then-is_head c = rw (← Q_head _ _ _ c.args.end c.args.r c.args.i (sym c.is_head.ensures ∙ c.if-is_head.true)) c.head_entry.ensures
 
 pub overflow_sub-i : goal.overflow_sub-i
 overflow_sub-i c = omega (arith, begins_not_first _ _ (sym c.is_head.ensures ∙ c.if-is_head.false))
 
 pub opposite-requires : goal.opposite-requires
-opposite-requires c = c.requires.6.entry _ _
+opposite-requires c = c.args.self.now.small.T.entry _ _
 
 pub returns : goal.returns
 returns c = one_coefficient _ _ _ (c.opposite.ensures ∙ Q_first _ _ _ _ _ _ (sym c.is_head.ensures ∙ c.if-is_head.false)) (omega arith) (omega arith) (Q_short _ _ _ _ _ _ (sym c.is_head.ensures ∙ c.if-is_head.false))

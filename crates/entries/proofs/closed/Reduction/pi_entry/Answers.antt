@@ -3,7 +3,7 @@ use Rattle.std.proofs.Common.{ℕ, arith, refl, sym, ◌∙◌, add-zero, length
 use Rattle.heads.specs.Heads.{begins_not_first}
 use Rattle.entries.specs.Entries.{PI_first, PI_second, PI_head_short, PI_short}
 use Rattle.entries.specs.PutEntries.{one_coefficient, coefficients_none, coefficients_more, coefficients_end}
-use Rattle.entries.proofs.closed.pi_entry.Goals as goal
+use Rattle.entries.proofs.closed.Reduction.pi_entry.Goals as goal
 
 pub returns-then-is_head : goal.returns-then-is_head
 returns-then-is_head c = one_coefficient _ _ _ (PI_first _ _ _ _ _) (omega arith) (omega arith) (PI_head_short _ _ _ _ _ (sym c.is_head.ensures ∙ c.if-is_head.true))
@@ -12,7 +12,7 @@ pub overflow_sub-i : goal.overflow_sub-i
 overflow_sub-i c = omega (arith, begins_not_first _ _ (sym c.is_head.ensures ∙ c.if-is_head.false))
 
 pub opposite-requires : goal.opposite-requires
-opposite-requires c = c.requires.4.entry _ _
+opposite-requires c = c.args.self.now.small.T.entry _ _
 
 pub bounds-out-start-2 : goal.bounds-out-start-2
 bounds-out-start-2 c = omega (arith, length-set {A = ℕ}, begins_not_first _ _ (sym c.is_head.ensures ∙ c.if-is_head.false))

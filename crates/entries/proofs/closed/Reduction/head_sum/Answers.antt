@@ -1,11 +1,11 @@
 -- The sum so far is the leading term and the others up to column j.
-use Rattle.std.proofs.Common.{ℕ, arith, ◌≡◌, ◌∙◌, ◌+◌, ◌*◌, ◌-◌, ◌≤◌, ap, ap₂, mul-le-mul}
+use Rattle.std.proofs.Common.{ℕ, arith, ◌≡◌, ◌∙◌, ◌+◌, ◌*◌, ◌-◌, ◌≤◌, ap, ap₂, mul-le-mul, get_or, []}
 use Rattle.forms.specs.Numbers.{total}
 use Rattle.forms.specs.ClosedForms.{opposite}
 use Rattle.matrices.specs.Matrices.{cell}
 use Rattle.matrices.specs.Filling.{total_turn}
 use Rattle.entries.specs.Entries.{head_sum_is}
-use Rattle.entries.proofs.closed.head_sum.Goals as goal
+use Rattle.entries.proofs.closed.Reduction.head_sum.Goals as goal
 
 -- one term more
 more_terms : (lead n : ℕ) {sum term next : ℕ} (f : ℕ → ℕ) → sum ≡ lead + total n f → next ≡ n + 1 → term ≡ f n → sum + term ≡ lead + total next f
@@ -23,11 +23,8 @@ loop-j-preserved c =
     let product : c.from.result * c.from-in-loop-j.result ≤ 65025 = mul-le-mul {n₁ = c.from.result} {m₁ = c.from-in-loop-j.result} {n₂ = 255} {m₂ = 255} (omega arith) (omega arith) in (
       omega arith,
       more_terms _ (l.j - a.i) _ l.invariant.1 (omega arith)
-          (ap₂ ◌*◌ c.from.ensures (c.from-in-loop-j.ensures ∙ c.opposite.ensures) ∙ ap (λ (x : ℕ). cell a.t.now a.r x * opposite a.p (cell a.f.now (x + 1 + a.k) a.end)) j),
+          (ap₂ ◌*◌ c.from.ensures (c.from-in-loop-j.ensures ∙ c.opposite.ensures) ∙ ap (λ (x : ℕ). cell (get_or a.self.now.state.now 1 []) a.r x * opposite a.self.now.modulus.p (cell (get_or a.self.now.state.now 0 []) (x + 1 + a.k) a.end)) j),
     )
-
-pub remainder-requires : goal.remainder-requires
-remainder-requires c = (omega (arith, c.requires.3.entry 0 0), omega arith, c.requires.4)
 
 pub returns : goal.returns
 returns c =

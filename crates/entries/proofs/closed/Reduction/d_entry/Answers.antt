@@ -2,7 +2,7 @@
 use Rattle.std.proofs.Common.{rules}
 use Rattle.matrices.specs.Filling.{fill_start, fill_turn, fill_end}
 use Rattle.entries.specs.Coefficients.{D_entry}
-use Rattle.entries.proofs.closed.d_entry.Goals as goal
+use Rattle.entries.proofs.closed.Reduction.d_entry.Goals as goal
 
 pub loop-k-init : goal.loop-k-init
 loop-k-init c = fill_start _ _

@@ -1,8 +1,0 @@
--- The loop: the first k coefficients are filled in.
-use Rattle.std.proofs.Common.{◌≡◌}
-use Rattle.matrices.specs.Filling.{filled}
-use Rattle.entries.specs.Coefficients.{D_coefficient, zero_entry}
-use Rattle.entries.proofs.closed.d_entry.Given as goal
-
-abbrev pub invariant-loop-k : goal.invariant-loop-k
-invariant-loop-k l = l.e ≡ filled l.k (D_coefficient l.p l.f l.i l.end) zero_entry

@@ -1,9 +1,0 @@
--- The sums are put as far as the block goes; the others are zero.
-use Rattle.std.proofs.Common.{◌≡◌, ◌-◌, ◌≤◌}
-use Rattle.forms.specs.Listed.{listed}
-use Rattle.writing.specs.Put.{put}
-use Rattle.entries.specs.Coefficients.{head_sum}
-use Rattle.entries.proofs.closed.head_entry.Given as goal
-
-abbrev pub invariant-loop-row : goal.invariant-loop-row
-invariant-loop-row l = (l.row ≤ l.n) × (l.out ≡ put l.initial.out l.start (listed (l.row - l.i) (head_sum l.p l.f l.t l.end l.r l.i)))
