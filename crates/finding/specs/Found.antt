@@ -1,9 +1,9 @@
 -- Finding: which record a mark stands for, and what it finds.
-use Rattle.std.specs.Prelude.{◌≡◌, true, false, ℕ, zero, suc, ◌+◌, ◌-◌, ◌≤◌, ◌<◌, T, eqb, length, take, drop, Option, Some, None, Result, Ok, Err}
+use Rattle.std.specs.Prelude.{◌≡◌, true, false, ℕ, zero, suc, ◌+◌, ◌-◌, ◌≤◌, ◌<◌, T, eqb, length, take, drop, Option, Some, None, Err}
 use Rattle.std.proofs.Math.Path.{refl}
-use Rattle.std.proofs.Common.{sym, ◌∙◌, ap, ap₂, subst, arith, eqb→eq, ext_get_or}
+use Rattle.std.proofs.Common.{sym, ◌∙◌, ap, ap₂, subst, arith, lit<, eqb→eq, ext_get_or}
 use mathlib.Core.List.{List, []}
-use Rattle.forms.specs.Numbers.{at}
+use Rattle.forms.specs.Numbers.{at, total}
 use Rattle.forms.specs.Answers.{Asked, fine, refuse}
 use Rattle.forms.specs.Certificate.{mark, payload, size, offset, part}
 use Rattle.forms.specs.Reading.{marked, reading, certificate_of}
@@ -16,8 +16,7 @@ use Rattle.forms.specs.declared.Fault.{Fault}
 use Rattle.certificate.specs.Numbering.{number_of, number_small}
 use Rattle.certificate.specs.Sizes.{offset_next}
 use Rattle.certificate.specs.declared.records.Record.{Record}
-use Rattle.certificate.specs.ReadRecords.{read_of, good_read, payload_within}
-use Rattle.certificate.specs.declared.reading.Cursor.{Cursor}
+use Rattle.certificate.specs.ReadRecords.{read_of, payload_within}
 
 -- m is the mark of the record, or of none of the ten
 abbrev pub Marks : List ℕ → Option Record → Type 0
@@ -47,26 +46,18 @@ module _ (m : List ℕ) where
       same e f (suc (suc i)) q = absurd (omega arith)
 
 -- what find answers, from what it has read and which record is marked
-module _ (s : List ℕ) {r : Result Cursor Fault} (next : ℕ) (read : r ≡ read_of (reading s) next) where
-  pub found_unread : {m found : List ℕ} {fault : Fault} → r ≡ Err fault → found ≡ [] → Finds s m found
-  unfolding part_found
-  found_unread {m} {found} {fault} bad e = record { answered = e ∙ go (reading s) read }
-    where
-      go : (q : Asked) → r ≡ read_of q next → [] ≡ part_found q s m
-      go fine f = cc
-      go (refuse number place) f = refl
+pub found_unread : {s m found : List ℕ} {fault : Fault} (next : ℕ) → Err fault ≡ read_of (reading s) next → found ≡ [] → Finds s m found
+unfolding part_found
+found_unread {s} {m} {found} {fault} next read e = record { answered = e ∙ go (reading s) read }
+  where
+    go : (q : Asked) → Err fault ≡ read_of q next → [] ≡ part_found q s m
+    go fine f = cc
+    go (refuse number place) f = refl
 
-  module _ {c : Cursor} (good : r ≡ Ok c) where
-    fine_reading : reading s ≡ fine
-    fine_reading = (good_read (reading s) next read good).0
-
-    pub found_complete : (k : ℕ) → k < 10 → offset (at s 5) (k + 1) ≤ length s
-    found_complete = payload_within 10 s fine_reading
-
-    pub found_marked : {m found : List ℕ} (kind : Record) → Marks m (Some kind) → found ≡ part (at s 5) (number_of kind) s → Finds s m found
-    found_marked {m} kind h e =
-        let k = number_of kind in let l = number_small kind in
-        record { answered = e ∙ sym (ap (part_found (reading s) s) (is_the_mark m k l h) ∙ found_by_mark s k l fine_reading) }
+pub found_marked : {s m found : List ℕ} → reading s ≡ fine → (kind : Record) → Marks m (Some kind) → found ≡ part (at s 5) (number_of kind) s → Finds s m found
+found_marked {s} {m} read kind h e =
+    let k = number_of kind in let l = number_small kind in
+    record { answered = e ∙ sym (ap (part_found (reading s) s) (is_the_mark m k l h) ∙ found_by_mark s k l read) }
 
 pub found_unmarked : {s m found : List ℕ} → Marks m None → found ≡ [] → Finds s m found
 found_unmarked {s} {m} h e = record { answered = e ∙ sym (nothing_found s m h) }
@@ -77,6 +68,14 @@ found_payload s m found h e k l t = h.answered ∙ ap (part_found (reading s) s)
 
 pub found_not_empty : (s m found : List ℕ) → Finds s m found → reading s ≡ fine → (k : ℕ) → k < 10 → T (is_mark m k) → 0 < length found
 found_not_empty s m found h e k l t = rw (found_payload s m found h e k l t) (payload_not_empty (certificate_of s) (reading_laid_out s e) k l)
+
+-- each payload of what was read is complete, and so are p and n
+pub read_complete : (s : List ℕ) → reading s ≡ fine → (k : ℕ) → k < 10 → offset (at s 5) (k + 1) ≤ length s
+read_complete = payload_within 10
+
+pub header_complete : (s : List ℕ) → reading s ≡ fine → 6 ≤ length s
+unfolding offset size total
+header_complete s read = read_complete s read 0 (lit< tt)
 
 -- the payload of record k, from behind its head to its end
 pub part_by_offsets : (n k : ℕ) (s : List ℕ) {start next : ℕ} → start ≡ offset n k → next ≡ offset n (k + 1) → take (next - (start + 4)) (drop (start + 4) s) ≡ part n k s

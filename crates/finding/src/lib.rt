@@ -1,14 +1,19 @@
 // Finding: the payload that a mark finds, as a part of the certificate.
 #![tactic(auto)]
 
-ghost use Rattle.std.specs.Prelude.{◌≡◌, [], ◌+◌, ◌≤◌, length};
+ghost use Rattle.std.specs.Prelude.{◌≡◌, [], ◌+◌, ◌≤◌, length, MatchResult};
+ghost use Rattle.forms.specs.Numbers.{at};
+ghost use Rattle.forms.specs.Answers.{fine};
 ghost use Rattle.forms.specs.Certificate.{offset, part};
+ghost use Rattle.forms.specs.Reading.{reading};
 ghost use Rattle.forms.specs.Operations.{Finds};
 ghost use Rattle.certificate.specs.Numbering.{number_of};
+ghost use Rattle.certificate.specs.ReadRecords.{read_of};
 ghost use Rattle.finding.specs.Found.{Marks};
 
-use certificate::reading::{byte, read_certificate};
+use certificate::reading::read_certificate;
 use certificate::records::{RECORDS, Record};
+use forms::Fault;
 
 // The record whose mark is exactly m, if there is one.
 pub fn record_marked(m: &[u8]) -> Option<Record>
@@ -41,15 +46,50 @@ pub fn payload<'a>(certificate: &'a [u8], n: u8, kind: Record) -> &'a [u8]
     &certificate[start..end]
 }
 
+// A certificate in which reading refuses nothing.
+#[derive(Clone, Copy)]
+pub struct ReadCertificate<'a> {
+    pub bytes: &'a [u8],
+    pub ghost is_read: { reading bytes.now ≡ fine },
+}
+
+// The certificate of these bytes, or the first fault in them.
+pub fn read<'a>(bytes: &'a [u8]) -> Result<ReadCertificate<'a>, Fault>
+    ensures { MatchResult result (λ c. c.bytes.now ≡ bytes.now) (λ fault. Err fault ≡ read_of (reading bytes.now) 0) }
+{
+    read_certificate(bytes)?;
+    Ok(ReadCertificate { bytes })
+}
+
+impl<'a> ReadCertificate<'a> {
+    pub fn prime(self) -> u8
+        ensures { result ≡ at self.entry.bytes.now 4 }
+    {
+        self.bytes[4]
+    }
+
+    pub fn order(self) -> u8
+        ensures { result ≡ at self.entry.bytes.now 5 }
+    {
+        self.bytes[5]
+    }
+
+    pub fn payload(self, kind: Record) -> &'a [u8]
+        ensures { result.now ≡ part (at self.entry.bytes.now 5) (number_of kind) self.entry.bytes.now }
+    {
+        payload(self.bytes, self.order(), kind)
+    }
+}
+
 // Empty where the certificate is not read, or where the mark is none of the ten.
 pub fn find<'a, 'b>(certificate: &'a [u8], mark: &'b [u8]) -> &'a [u8]
     ensures { Finds certificate.now mark.now result.now }
 {
-    let Ok(_) = read_certificate(certificate) else {
+    let Ok(read) = read(certificate) else {
         return nothing(certificate);
     };
     let Some(kind) = record_marked(mark) else {
         return nothing(certificate);
     };
-    payload(certificate, byte(certificate, 5), kind)
+    read.payload(kind)
 }
