@@ -1,13 +1,14 @@
 -- Finding: which record a mark stands for, and what it finds.
-use Rattle.std.specs.Prelude.{◌≡◌, true, false, ℕ, zero, suc, ◌+◌, ◌-◌, ◌≤◌, ◌<◌, T, eqb, length, take, drop, Option, Some, None, Err}
+use Rattle.std.specs.Prelude.{◌≡◌, true, false, ℕ, zero, suc, ◌+◌, ◌-◌, ◌≤◌, ◌<◌, T, eqb, length, take, drop, Option, Some, None, Ok, Err}
 use Rattle.std.proofs.Math.Path.{refl}
 use Rattle.std.proofs.Common.{sym, ◌∙◌, ap, ap₂, subst, arith, lit<, eqb→eq, ext_get_or}
 use mathlib.Core.List.{List, []}
-use Rattle.forms.specs.Numbers.{at, total}
+use Rattle.forms.specs.Numbers.{at, total, order_limit}
 use Rattle.forms.specs.Answers.{Asked, fine, refuse}
 use Rattle.forms.specs.Certificate.{mark, payload, size, offset, part}
 use Rattle.forms.specs.Reading.{marked, reading, certificate_of}
 use Rattle.forms.specs.Operations.{is_mark, part_found, Finds}
+use Rattle.forms.specs.Primes.{prime_positive}
 use Rattle.forms.specs.Tests.{equal_holds, and_parts, and_holds}
 use Rattle.forms.proofs.Layouts.{payload_read, reading_laid_out}
 use Rattle.forms.proofs.Records.{mark_length}
@@ -16,7 +17,8 @@ use Rattle.forms.specs.declared.Fault.{Fault}
 use Rattle.certificate.specs.Numbering.{number_of, number_small}
 use Rattle.certificate.specs.Sizes.{offset_next}
 use Rattle.certificate.specs.declared.records.Record.{Record}
-use Rattle.certificate.specs.ReadRecords.{read_of, payload_within}
+use Rattle.certificate.specs.ReadRecords.{read_of, good_read, payload_within}
+use Rattle.certificate.specs.declared.reading.Cursor.{Cursor}
 
 -- m is the mark of the record, or of none of the ten
 abbrev pub Marks : List ℕ → Option Record → Type 0
@@ -68,6 +70,19 @@ found_payload s m found h e k l t = h.answered ∙ ap (part_found (reading s) s)
 
 pub found_not_empty : (s m found : List ℕ) → Finds s m found → reading s ≡ fine → (k : ℕ) → k < 10 → T (is_mark m k) → 0 < length found
 found_not_empty s m found h e k l t = rw (found_payload s m found h e k l t) (payload_not_empty (certificate_of s) (reading_laid_out s e) k l)
+
+-- where reading comes to an end nothing is refused
+pub read_fine : (s : List ℕ) {c : Cursor} (next : ℕ) → Ok c ≡ read_of (reading s) next → reading s ≡ fine
+read_fine s next e = (good_read (reading s) next e refl).0
+
+-- the order and the prime of what was read
+pub order_read : (s : List ℕ) → reading s ≡ fine → at s 5 ≤ order_limit
+unfolding certificate_of
+order_read s read = (reading_laid_out s read).high
+
+pub prime_read : (s : List ℕ) → reading s ≡ fine → 0 < at s 4
+unfolding certificate_of
+prime_read s read = prime_positive (at s 4) (reading_laid_out s read).prime_p
 
 -- each payload of what was read is complete, and so are p and n
 pub read_complete : (s : List ℕ) → reading s ≡ fine → (k : ℕ) → k < 10 → offset (at s 5) (k + 1) ≤ length s

@@ -14,6 +14,8 @@ ghost use Rattle.finding.specs.Found.{Marks};
 use certificate::reading::read_certificate;
 use certificate::records::{RECORDS, Record};
 use forms::Fault;
+use matrices::Order;
+use residues::modulus::Modulus;
 
 // The record whose mark is exactly m, if there is one.
 pub fn record_marked(m: &[u8]) -> Option<Record>
@@ -46,11 +48,15 @@ pub fn payload<'a>(certificate: &'a [u8], n: u8, kind: Record) -> &'a [u8]
     &certificate[start..end]
 }
 
-// A certificate in which reading refuses nothing.
+// A certificate in which reading refuses nothing, with its order and its prime.
 #[derive(Clone, Copy)]
 pub struct ReadCertificate<'a> {
     pub bytes: &'a [u8],
+    pub order: Order,
+    pub modulus: Modulus,
     pub ghost is_read: { reading bytes.now ≡ fine },
+    pub ghost order_is: { order.n ≡ at bytes.now 5 },
+    pub ghost modulus_is: { modulus.p ≡ at bytes.now 4 },
 }
 
 // The certificate of these bytes, or the first fault in them.
@@ -58,26 +64,20 @@ pub fn read<'a>(bytes: &'a [u8]) -> Result<ReadCertificate<'a>, Fault>
     ensures { MatchResult result (λ c. c.bytes.now ≡ bytes.now) (λ fault. Err fault ≡ read_of (reading bytes.now) 0) }
 {
     read_certificate(bytes)?;
-    Ok(ReadCertificate { bytes })
+    let order = Order::new(bytes[5] as usize);
+    let modulus = Modulus::new(bytes[4]);
+    Ok(ReadCertificate {
+        bytes,
+        order,
+        modulus,
+    })
 }
 
 impl<'a> ReadCertificate<'a> {
-    pub fn prime(self) -> u8
-        ensures { result ≡ at self.entry.bytes.now 4 }
+    pub fn payload(&self, kind: Record) -> &'a [u8]
+        ensures { result.now ≡ part (at self.now.bytes.now 5) (number_of kind) self.now.bytes.now }
     {
-        self.bytes[4]
-    }
-
-    pub fn order(self) -> u8
-        ensures { result ≡ at self.entry.bytes.now 5 }
-    {
-        self.bytes[5]
-    }
-
-    pub fn payload(self, kind: Record) -> &'a [u8]
-        ensures { result.now ≡ part (at self.entry.bytes.now 5) (number_of kind) self.entry.bytes.now }
-    {
-        payload(self.bytes, self.order(), kind)
+        payload(self.bytes, self.bytes[5], kind)
     }
 }
 

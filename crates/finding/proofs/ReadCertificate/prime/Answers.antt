@@ -1,7 +1,0 @@
--- The header is complete.
-use Rattle.std.proofs.Common.{arith}
-use Rattle.finding.specs.Found.{header_complete}
-use Rattle.finding.proofs.ReadCertificate.prime.Goals as goal
-
-pub bounds-self-4 : goal.bounds-self-4
-bounds-self-4 c = omega (arith, header_complete c.args.self.bytes.now c.args.self.is_read)
