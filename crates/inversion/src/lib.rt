@@ -1,4 +1,4 @@
-// The inverse of a field matrix, by elimination with row operations, and the test that tells where there is none.
+// The inverse of a field matrix, by elimination with row operations, and the test for the zero matrix.
 #![tactic(auto)]
 
 ghost use Rattle.std.specs.Prelude.{◌≡◌, ◌≤◌, ◌<◌, T};
@@ -94,6 +94,7 @@ pub fn inverse(a: Mat, n: usize, p: u8) -> Option<Mat>
     Some(pair.s)
 }
 
+// Whether the first n entries of v are zero.
 fn is_zero_row(v: Row, n: usize) -> bool
     requires { n ≤ order_limit }
     ensures { result ≡ zero_entries n v }
@@ -106,5 +107,5 @@ pub fn is_zero(m: Mat, n: usize) -> bool
     requires { n ≤ order_limit }
     ensures { result ≡ is_zero n m }
 {
-    m[..n].iter().all(|v| is_zero_row(*v, n))
+    m[..n].iter().all(|row| is_zero_row(*row, n))
 }
