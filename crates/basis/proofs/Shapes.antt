@@ -21,6 +21,6 @@ square_at (m ∷ s) [] i h l = absurd h
 square_at (m ∷ s) (x ∷ vs) zero h l = square m _ h.0.1.0.1 h.0.1.1
 square_at (m ∷ s) (x ∷ vs) (suc i) h l = square_at s vs i h.1 (le_of_suc-le-suc l)
 
--- of a parameter s that stands first: squares s _ (search needs) c.good.0.1.1
+-- of a parameter s that stands first: squares c.args.s _ c.well_formed.0.1.0.1 c.well_formed.0.1.1
 pub squares : (s : State) (vs : List Val) → length s ≡ 3 → shadow (each (List (List ℕ)) (Array (Array (UInt w8) order_limit) order_limit).own_val s vs) → Squares s
 squares s vs e h = record { three = e; square = λ i l. square_at s vs i h (omega arith) }

@@ -1,23 +1,14 @@
 -- Loops that overwrite the rows of a field matrix from the front: a row at a time, some of them left as they are; and those that do so in two
 -- of the three matrices of a state.
 use Rattle.std.specs.Prelude.{◌≡◌, refl, ◌≢◌, List, [], ℕ, ◌+◌, ◌≤◌, ◌<◌, length, get_or, set}
-use Rattle.std.proofs.Common.{sym, ◌∙◌, ap, subst, le_antisymm, arith, length-set, set-set, get_or-set_same, get_or-set_other}
-use Rattle.std.proofs.Math.Decide.{dec_lt}
+use Rattle.std.proofs.Common.{sym, ◌∙◌, ap, subst, le_antisymm, arith, length-set, get_or-set_same, get_or-set_other}
 use Rattle.std.proofs.lemmas.List.{set-get_or}
-use Rattle.std.proofs.Math.Seq.{set_out}
 use Rattle.forms.specs.Numbers.{order_limit}
 use Rattle.algebra.specs.Matrix.{Matrix, Within}
 use Rattle.algebra.specs.Modular.{modulo}
 use Rattle.matrices.specs.Filling.{filled, filled_inside, filled_outside, fill_start, fill_turn}
 use Rattle.matrices.specs.Matrices.{cell, vector, matrix, FieldRow, FieldMatrix}
 use Rattle.basis.specs.State.{Array, State, Squares, field_row_whole, field_row, matrix_of_rows, field_of_rows}
-
--- two entries of one row, one after the other
-pub both_entries : (l : Array) (i a b x y : ℕ) → set (set l i (set (get_or l i []) a x)) i (set (get_or (set l i (set (get_or l i []) a x)) i []) b y) ≡ set l i (set (set (get_or l i []) a x) b y)
-both_entries l i a b x y = set-set l i _ _ ∙ elim (dec_lt i (length l)) [
-  | yes h ↦ ap (λ (v : List ℕ). set l i (set v b y)) (get_or-set_same l i (set (get_or l i []) a x) [] h)
-  | no h ↦ set_out l i _ (omega arith) ∙ sym (set_out l i _ (omega arith))
-]
 
 module _ (n : ℕ) (f : ℕ → List ℕ) (m : Array) where
   -- the rows to come are those of m

@@ -120,9 +120,8 @@ pub fn replace(s: State, at: usize, w: Row, n: usize, m: Modulus) -> State
     ensures { Fields m.p n result × Replaced (modulo m.p) n at (vector m.p n w) (frame m.p n s) (frame m.p n result) }
 {
     let d = reciprocal_of(w[at], m.p);
-    let z = [0; ORDER];
-    let e = unit_row(at);
-    let c = add_multiple(add_multiple(z, m.p - d, w, m), d, e, m);
+    let v = add_multiple([0; ORDER], m.p - d, w, m);
+    let c = add_multiple(v, d, unit_row(at), m);
     add_rows(set_columns(s, at, w, n, m), c, at, n, m)
 }
 

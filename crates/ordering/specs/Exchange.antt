@@ -1,6 +1,8 @@
 -- Two places exchanged: the permutation, what it makes of a list, and the change of basis.
 use Rattle.std.specs.Prelude.{◌≡◌, ◌≢◌, List, ℕ, ◌≤◌, ◌<◌, length, get_or, set}
-use Rattle.std.proofs.Common.{◌∙◌, ap, arith, length-set, get_or-set_same, get_or-set_other}
+use Rattle.std.specs.List.{swap}
+use Rattle.std.proofs.Common.{sym, ◌∙◌, ap, arith, length-set, get_or-set_same, get_or-set_other}
+use Rattle.std.proofs.lemmas.List.Edits.{swap_is}
 use Rattle.std.proofs.Math.Decide.{ℕ_discrete}
 use Rattle.algebra.specs.Choice.{put, put_same, put_other}
 use Rattle.algebra.specs.Ring.{Ring}
@@ -45,19 +47,15 @@ exchange_permutes n a b l g = record {
   forth = λ i h. exchange_twice a b i;
 }
 
-module _ {A : Type 0} where
-  -- a list with the entries a and b exchanged
-  abbrev pub exchanged : A → ℕ → ℕ → List A → List A
-  exchanged d a b x = set (set x a (get_or x b d)) b (get_or x a d)
-
-  pub exchanged_at : (d : A) (a b : ℕ) (x : List A) → a < length x → b < length x → (i : ℕ) → get_or (exchanged d a b x) i d ≡ get_or x (exchange a b i) d
-  exchanged_at d a b x l g i = elim (ℕ_discrete i b) [
-    | yes e ↦ rw (e, exchange_second a b) (get_or-set_same (set x a (get_or x b d)) b (get_or x a d) d (rw (length-set x a (get_or x b d)) g))
-    | no o ↦ get_or-set_other (set x a (get_or x b d)) b i (get_or x a d) d o ∙ elim (ℕ_discrete i a) [
-      | yes e ↦ rw (e, exchange_first a b) (get_or-set_same x a (get_or x b d) d l)
-      | no q ↦ rw (exchange_other a b i q o) (get_or-set_other x a i (get_or x b d) d q)
-    ]
+-- a list with two entries exchanged
+pub swap_at : {A : Type 0} (d : A) (a b : ℕ) (x : List A) → a < length x → b < length x → (i : ℕ) → get_or (swap x a b) i d ≡ get_or x (exchange a b i) d
+swap_at d a b x l g i = rw (sym (swap_is x a b d l g)) (elim (ℕ_discrete i b) [
+  | yes e ↦ rw (e, exchange_second a b) (get_or-set_same (set x a (get_or x b d)) b (get_or x a d) d (rw (length-set x a (get_or x b d)) g))
+  | no o ↦ get_or-set_other (set x a (get_or x b d)) b i (get_or x a d) d o ∙ elim (ℕ_discrete i a) [
+    | yes e ↦ rw (e, exchange_first a b) (get_or-set_same x a (get_or x b d) d l)
+    | no q ↦ rw (exchange_other a b i q o) (get_or-set_other x a i (get_or x b d) d q)
   ]
+])
 
 -- two vectors of a window exchanged
 pub exchanged_change : {R : Type 0} (K : Ring R) (n k a b : ℕ) (X Y : Frame K) → a < k → b < k → k ≤ n → FrameWithin K n X → FrameWithin K n Y → Reordered K n (exchange a b) X Y → Change K n k X Y

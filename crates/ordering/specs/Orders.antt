@@ -1,11 +1,12 @@
 -- The state in another order of the basis vectors: what moved columns and rows say of field matrices, and two of them exchanged.
 use Rattle.std.specs.Prelude.{◌≡◌, List, [], ℕ, ◌≤◌, ◌<◌, get_or}
+use Rattle.std.specs.List.{swap}
 use Rattle.std.proofs.Common.{sym, ◌∙◌, ap, arith}
 use Rattle.forms.specs.Numbers.{order_limit}
 use Rattle.algebra.specs.Modular.{residue, modulo}
 use Rattle.matrices.specs.Filling.{filled}
 use Rattle.matrices.specs.Matrices.{cell, matrix, matrix_inside, FieldRow, FieldMatrix, Square}
-use Rattle.ordering.specs.Exchange.{exchange, exchange_other, exchange_below, exchanged, exchanged_at}
+use Rattle.ordering.specs.Exchange.{exchange, exchange_other, exchange_below, swap_at}
 use Rattle.basis.specs.Overwriting.{overwritten_cell, overwritten_field}
 use Rattle.ordering.specs.Reordering.{Reordered}
 use Rattle.basis.specs.State.{Array, State, frame, Fields}
@@ -57,28 +58,28 @@ in_order_equal n σ τ s r e x = record {
 
 -- two columns, or two rows, exchanged
 module _ (n a b : ℕ) (l : a < n) (g : b < n) (o : n ≤ order_limit) (x r : Array) (q : Square x) where
-  column_cell : (i j : ℕ) → i < n → get_or (exchanged 0 a b (get_or x i [])) j 0 ≡ cell x i (exchange a b j)
-  column_cell i j h = exchanged_at 0 a b (get_or x i []) (omega (arith, q.wide i (omega arith))) (omega (arith, q.wide i (omega arith))) j
+  column_cell : (i j : ℕ) → i < n → get_or (swap (get_or x i []) a b) j 0 ≡ cell x i (exchange a b j)
+  column_cell i j h = swap_at 0 a b (get_or x i []) (omega (arith, q.wide i (omega arith))) (omega (arith, q.wide i (omega arith))) j
 
   stays : (i : ℕ) → n ≤ i → exchange a b i ≡ i
   stays i h = exchange_other a b i (omega arith) (omega arith)
 
-  column_row : (p : ℕ) → FieldMatrix p n x → (i : ℕ) → i < n → FieldRow p n (exchanged 0 a b (get_or x i []))
+  column_row : (p : ℕ) → FieldMatrix p n x → (i : ℕ) → i < n → FieldRow p n (swap (get_or x i []) a b)
   column_row p f i h = record {
     small = λ j c. rw (column_cell i j h) (f.small i (exchange a b j) h (exchange_below n a b l g j c));
     rest = λ j c. column_cell i j h ∙ ap (cell x i) (stays j c) ∙ f.columns i j c;
   }
 
-  pub exchanged_columns : r ≡ filled n (λ i. exchanged 0 a b (get_or x i [])) x → ColumnsIn n (exchange a b) x r
+  pub exchanged_columns : r ≡ filled n (λ i. swap (get_or x i []) a b) x → ColumnsIn n (exchange a b) x r
   exchanged_columns e = rw e (record {
-    cells = λ i j c d. overwritten_cell n (λ i. exchanged 0 a b (get_or x i [])) x i j c ∙ column_cell i j c;
+    cells = λ i j c d. overwritten_cell n (λ i. swap (get_or x i []) a b) x i j c ∙ column_cell i j c;
     field = λ p f. overwritten_field n _ x p f (column_row p f);
   })
 
-  row_cell : (i j : ℕ) → cell (exchanged [] a b x) i j ≡ cell x (exchange a b i) j
-  row_cell i j = ap (λ (v : List ℕ). get_or v j 0) (exchanged_at [] a b x (omega (arith, q.tall)) (omega (arith, q.tall)) i)
+  row_cell : (i j : ℕ) → cell (swap x a b) i j ≡ cell x (exchange a b i) j
+  row_cell i j = ap (λ (v : List ℕ). get_or v j 0) (swap_at [] a b x (omega (arith, q.tall)) (omega (arith, q.tall)) i)
 
-  pub exchanged_rows : r ≡ exchanged [] a b x → RowsIn n (exchange a b) x r
+  pub exchanged_rows : r ≡ swap x a b → RowsIn n (exchange a b) x r
   exchanged_rows e = rw e (record {
     cells = λ i j c d. row_cell i j;
     field = λ p f. record {

@@ -7,28 +7,24 @@ ghost use Rattle.ordering.specs.Orders.{ColumnsIn, RowsIn, InOrder};
 use basis::steps::State;
 use matrices::Mat;
 
+// Columns a and b exchange their places.
 fn exchange_columns(mut x: Mat, a: usize, b: usize, n: usize) -> Mat
     requires { (n ≤ order_limit) × (a < n) × (b < n) }
     ensures { ColumnsIn n (exchange a b) x result }
 {
-    let mut i = 0;
-    while i < n {
-        let v = x[i][a];
-        x[i][a] = x[i][b];
-        x[i][b] = v;
-        i = i + 1;
+    for row in &mut x[..n] {
+        row.swap(a, b);
     }
     x
 }
 
-fn exchange_rows(x: Mat, a: usize, b: usize, n: usize) -> Mat
+// Rows a and b exchange their places.
+fn exchange_rows(mut x: Mat, a: usize, b: usize, n: usize) -> Mat
     requires { (n ≤ order_limit) × (a < n) × (b < n) }
     ensures { RowsIn n (exchange a b) x result }
 {
-    let mut r = x;
-    r[a] = x[b];
-    r[b] = x[a];
-    r
+    x.swap(a, b);
+    x
 }
 
 // e_a and e_b exchange their places.

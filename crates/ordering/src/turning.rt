@@ -14,6 +14,7 @@ use matrices::Row;
 // Which place goes to each place.
 type Order = [usize; ORDER];
 
+// The place that goes to place i.
 fn turned(i: usize, m: usize, k: usize) -> usize
     requires { (i < order_limit) × (m ≤ k) × (k ≤ order_limit) }
     ensures { result ≡ rotation m k i }
@@ -30,13 +31,11 @@ fn turned(i: usize, m: usize, k: usize) -> usize
 // The table of the rotation.
 fn rotation_of(m: usize, k: usize) -> Order
     requires { (m ≤ k) × (k ≤ order_limit) }
-    ensures { result ≡ filled order_limit (rotation m k) zero_row }
+    ensures { (result ≡ filled order_limit (rotation m k) zero_row) × Places order_limit result }
 {
-    let mut r = [0usize; ORDER];
-    let mut j = 0;
-    while j < ORDER {
+    let mut r = [0; ORDER];
+    for j in 0..ORDER {
         r[j] = turned(j, m, k);
-        j = j + 1;
     }
     r
 }
@@ -46,12 +45,9 @@ fn turn_row(x: Row, q: Order) -> Row
     requires { Places order_limit q }
     ensures { result ≡ picked q x }
 {
-    let mut r = [0u8; ORDER];
-    let mut j = 0;
-    while j < ORDER {
-        let at = q[j];
-        r[j] = x[at];
-        j = j + 1;
+    let mut r = [0; ORDER];
+    for j in 0..ORDER {
+        r[j] = x[q[j]];
     }
     r
 }
@@ -66,13 +62,10 @@ pub fn rotate(s: State, m: usize, k: usize, n: usize) -> State
     }
     let q = rotation_of(m, k);
     let mut r = s;
-    let mut i = 0;
-    while i < n {
-        let at = q[i];
-        r[0][i] = turn_row(s[0][at], q);
+    for i in 0..n {
+        r[0][i] = turn_row(s[0][q[i]], q);
         r[1][i] = turn_row(s[1][i], q);
-        r[2][i] = s[2][at];
-        i = i + 1;
+        r[2][i] = s[2][q[i]];
     }
     r
 }

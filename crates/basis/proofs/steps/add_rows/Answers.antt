@@ -1,5 +1,5 @@
 -- The rows of B and of the inverse are overwritten with their sums with multiples of one row; the multiple 0 leaves its row.
-use Rattle.std.proofs.Common.{rules, ◌≡◌, [], length, get_or}
+use Rattle.std.proofs.Common.{rules, [], get_or}
 use Rattle.basis.specs.Overwriting.{rows_pair, overwriting_start, overwriting_turn, overwriting_left, overwriting_end}
 use Rattle.basis.specs.Steps.{row_without}
 use Rattle.basis.specs.Changes.{rows_added}
@@ -13,8 +13,7 @@ loop-i-init c = overwriting_start rows_pair _ _ c.args.s
 pub loop-i-preserved : goal.loop-i-preserved
 loop-i-preserved c =
     let l = c.loop-i in
-    let long : length c.args.s ≡ 3 = search rules in
-    let shape = squares c.args.s _ long c.well_formed.0.1.1 in
+    let shape = squares c.args.s _ c.well_formed.0.1.0.1 c.well_formed.0.1.1 in
     elim c.if-c-i-ne0.branch [
       | then-c-i-ne0 w ↦ rw w.s-is (overwriting_turn rows_pair _ _ c.args.s shape l.i (search rules) l.s l.invariant _ _ w.add_multiple.ensures w.add_multiple-then-c-i-ne0.ensures)
       | else-c-i-ne0 w ↦ rw w.s-is (overwriting_left rows_pair _ _ c.args.s shape l.i (search rules) l.s l.invariant

@@ -1,14 +1,10 @@
--- The loop adds up the rows of m, each as often as v says.
+-- The loop adds up the rows of x, each as often as v says.
 use Rattle.std.proofs.Common.{rules, le_antisymm}
-use Rattle.basis.specs.State.{field_row_whole}
 use Rattle.basis.specs.Steps.{combining_start, combining_turn, combining_end}
 use Rattle.basis.proofs.steps.combination.Goals as goal
 
 pub loop-i-init : goal.loop-i-init
 loop-i-init c = combining_start _ _ _ c.args.x (search rules)
-
-pub plus_multiple_row-sum-requires : goal.plus_multiple_row-sum-requires
-plus_multiple_row-sum-requires c = field_row_whole _ _ c.loop-i.r (search rules) (search rules) c.loop-i.invariant.field
 
 pub loop-i-preserved : goal.loop-i-preserved
 loop-i-preserved c = rw c.plus_multiple_row-sum.ensures (combining_turn _ _ _ _ c.args.x _ (search rules) (search rules) c.requires.1 (search rules) c.loop-i.invariant)

@@ -1,4 +1,4 @@
--- The loop adds up the rows of m, each as often as v says.
+-- The loop adds up the rows of x, each as often as v says.
 use Rattle.basis.specs.Steps.{Combining}
 use Rattle.basis.proofs.steps.combination.Given as goal
 
