@@ -6,7 +6,7 @@ ghost use Rattle.forms.specs.Numbers.{order_limit};
 ghost use Rattle.heads.specs.Heads.{begins, LastRow, LastRows, others, place, Ordered};
 
 use forms::ORDER;
-use matrices::{Mat, Row};
+use matrices::{Mat, Order, Row};
 
 // Row i begins a block: nothing stands just below the diagonal there.
 pub fn is_head(f: &Mat, i: usize) -> bool
@@ -17,11 +17,11 @@ pub fn is_head(f: &Mat, i: usize) -> bool
 }
 
 // The last row of the block of row i, where `next` is that of row i + 1.
-fn last_row(f: &Mat, i: usize, next: u8, n: usize) -> u8
-    requires { (n ≤ order_limit) × (i < n) × (i + 1 < n → LastRow f.now n (i + 1) next) }
-    ensures { LastRow f.now n i result }
+fn last_row(f: &Mat, i: usize, next: u8, order: Order) -> u8
+    requires { (i < order.n) × (i + 1 < order.n → LastRow f.now order.n (i + 1) next) }
+    ensures { LastRow f.now order.n i result }
 {
-    if i + 1 == n || is_head(f, i + 1) {
+    if i + 1 == order.n || is_head(f, i + 1) {
         i as u8
     } else {
         next
@@ -29,25 +29,23 @@ fn last_row(f: &Mat, i: usize, next: u8, n: usize) -> u8
 }
 
 // The last row of the block of each row.
-pub fn last_rows(f: &Mat, n: usize) -> Row
-    requires { n ≤ order_limit }
-    ensures { LastRows f.now n 0 result }
+pub fn last_rows(f: &Mat, order: Order) -> Row
+    ensures { LastRows f.now order.n 0 result }
 {
     let mut rows = [0; ORDER];
     let mut next = 0;
-    for i in (0..n).rev() {
-        next = last_row(f, i, next, n);
+    for i in (0..order.n).rev() {
+        next = last_row(f, i, next, order);
         rows[i] = next;
     }
     rows
 }
 
-// How many of the first n rows begin no block.
-fn others(f: &Mat, n: usize) -> usize
-    requires { n ≤ order_limit }
-    ensures { result ≡ others f.now n }
+// How many rows begin no block.
+fn others(f: &Mat, order: Order) -> usize
+    ensures { result ≡ others f.now order.n }
 {
-    (0..n).filter(|i| !is_head(f, *i)).count()
+    (0..order.n).filter(|i| !is_head(f, *i)).count()
 }
 
 // Where row i stands in D: `passed` of the rows before it begin no block, and `ones` of all.
@@ -63,14 +61,14 @@ fn place(f: &Mat, i: usize, passed: usize, ones: usize) -> usize
 }
 
 // The row of F for each row of D: first the rows that begin no block, then the others.
-pub fn order(f: &Mat, n: usize) -> Row
-    requires { (n ≤ order_limit) × (0 < n) }
-    ensures { Ordered f.now n n result }
+pub fn order(f: &Mat, order: Order) -> Row
+    requires { 0 < order.n }
+    ensures { Ordered f.now order.n order.n result }
 {
-    let ones = others(f, n);
+    let ones = others(f, order);
     let mut rows = [0; ORDER];
     let mut passed = 0;
-    for i in 0..n {
+    for i in 0..order.n {
         rows[place(f, i, passed, ones)] = i as u8;
         passed += usize::from(!is_head(f, i));
     }

@@ -5,4 +5,4 @@ use Rattle.heads.specs.Heads.{LastRow, LastRows}
 use Rattle.heads.proofs.last_rows.Given as goal
 
 abbrev pub invariant-loop-i : goal.invariant-loop-i
-invariant-loop-i l = LastRows l.f l.n l.i l.rows × (l.i < l.n → LastRow l.f l.n l.i l.next) × (length l.rows ≡ order_limit)
+invariant-loop-i l = LastRows l.f l.order.n l.i l.rows × (l.i < l.order.n → LastRow l.f l.order.n l.i l.next) × (length l.rows ≡ order_limit)

@@ -5,4 +5,4 @@ use Rattle.heads.specs.Heads.{others, Ordered}
 use Rattle.heads.proofs.order.Given as goal
 
 abbrev pub invariant-loop-i : goal.invariant-loop-i
-invariant-loop-i l = (l.passed ≡ others l.f l.i) × Ordered l.f l.n l.i l.rows × (length l.rows ≡ order_limit)
+invariant-loop-i l = (l.passed ≡ others l.f l.i) × Ordered l.f l.fn.order.n l.i l.rows × (length l.rows ≡ order_limit)

@@ -9,5 +9,5 @@ pub returns : goal.returns
 returns c =
     let a = c.args in
     count_from_yields_List c.filter.result c.count.result c.count.ensures.ran
-    (YieldsList-from_filter _ (λ i. not (begins a.f.now i)) (YieldsList-from_range 0 a.n a.n c.filter.ensures.source (omega arith)) c.filter.ensures.closure (λ x b q k. search rules))
-    ∙ others_counted a.f.now a.n
+    (YieldsList-from_filter _ (λ i. not (begins a.f.now i)) (YieldsList-from_range 0 a.order.n a.order.n c.filter.ensures.source (omega arith)) c.filter.ensures.closure (λ x b q k. search rules))
+    ∙ others_counted a.f.now a.order.n
