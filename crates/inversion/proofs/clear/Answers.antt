@@ -1,10 +1,7 @@
 -- The entries passed, and the one in row j, are those of E; what the elimination has kept stays.
-use Rattle.std.proofs.Common.{mod-lt, arith, rules}
+use Rattle.std.proofs.Common.{arith, rules}
 use Rattle.inversion.specs.Inversion.{pivot_ready, clearing_start, clearing_ready, clearing_turn, clearing_end}
 use Rattle.inversion.proofs.clear.Goals as goal
-
-pub reciprocal_of-d-requires : goal.reciprocal_of-d-requires
-reciprocal_of-d-requires c = (c.requires.0, mod-lt _ c.args.m.positive)
 
 pub place-cleared-requires : goal.place-cleared-requires
 place-cleared-requires c = pivot_ready _ _ _ _ _ _ c.args.m.positive c.requires.1 c.reciprocal_of-d.ensures
