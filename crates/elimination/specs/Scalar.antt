@@ -83,13 +83,17 @@ module _ {R : Type 0} (K : Ring R) where
   all_blocks n zero A X kn x s = x
   all_blocks n (suc k) A X kn x s = all_blocks n k A X (omega arith) (last_block n k A X kn x s) (record { diagonal = λ i l. s.diagonal i (omega arith); others = λ i j l g. s.others i j (omega arith) (omega arith) })
 
+-- row i of the window [0,k) is that of a multiple of E
+abbrev pub ScalarRow : (k : ℕ) → Array → ℕ → Type 0
+ScalarRow k b i = (j : ℕ) → j < k → cell b i j ≡ get_or (set zero_row i (cell b 0 0)) j 0
+
 -- the rows of the window [0,k) are those of a multiple of E
 pub record ScalarWindow (k : ℕ) (b : Array) : Type 0 where
-  pub rows : (i j : ℕ) → i < k → j < k → cell b i j ≡ get_or (set zero_row i (cell b 0 0)) j 0
+  pub rows : (i : ℕ) → i < k → ScalarRow k b i
 
 pub scalar_window : (p n k : ℕ) (b : Array) → n ≤ order_limit → k ≤ n → ScalarWindow k b → Scalar (modulo p) k (matrix p n b)
 scalar_window p n k b o kn s = record {
-  diagonal = λ i l. matrix_inside p n b i i (omega arith) (omega arith) ∙ ap (residue p) (s.rows i i l l ∙ get_or-set_same zero_row i (cell b 0 0) 0 (omega (arith, length-replicate {A = ℕ} order_limit 0)))
+  diagonal = λ i l. matrix_inside p n b i i (omega arith) (omega arith) ∙ ap (residue p) (s.rows i l i l ∙ get_or-set_same zero_row i (cell b 0 0) 0 (omega (arith, length-replicate {A = ℕ} order_limit 0)))
       ∙ sym (matrix_inside p n b 0 0 (omega arith) (omega arith));
-  others = λ i j l g c. zero_entry p n b i j (omega arith) (omega arith) (s.rows i j l g ∙ get_or-set_other zero_row i j (cell b 0 0) 0 (λ e. c (sym e)) ∙ zero_row_at j);
+  others = λ i j l g c. zero_entry p n b i j (omega arith) (omega arith) (s.rows i l j g ∙ get_or-set_other zero_row i j (cell b 0 0) 0 (λ e. c (sym e)) ∙ zero_row_at j);
 }

@@ -5,6 +5,7 @@ ghost use Rattle.matrices.specs.Matrices.{FieldMatrix};
 ghost use Rattle.elimination.specs.Reduced.{Reduced};
 ghost use Rattle.elimination.specs.Scalar.{ScalarWindow};
 
+use basis::remainders::Modulus;
 use basis::steps::{State, with_entry};
 use forms::ORDER;
 use matrices::{Mat, identity};
@@ -18,14 +19,7 @@ fn is_scalar(b: &Mat, k: usize) -> bool
     ensures { result ≡ true → ScalarWindow k b.now }
 {
     let d = b[0][0];
-    let mut i = 0;
-    while i < k {
-        if !same_row(b[i], with_entry([0u8; ORDER], i, d), k) {
-            return false;
-        }
-        i = i + 1;
-    }
-    true
+    (0..k).all(|i| same_row(b[i], with_entry([0; ORDER], i, d), k))
 }
 
 // F, T and the inverse of T, with A T = T F and F the companion blocks of f_1 | f_2 | ..
@@ -33,18 +27,19 @@ pub fn reduce(a: Mat, n: usize, p: u8) -> State
     requires { (n ≤ order_limit) × T (prime p) × FieldMatrix p n a }
     ensures { Reduced p n a result }
 {
+    let modulus = Modulus::new(p);
     let e = identity(n);
     let mut s = [a, e, e];
     let mut k = n;
-    while 0 < k {
+    while k > 0 {
         if is_scalar(&s[0], k) {
             return s;
         }
-        let c = split(s, k, n, p);
+        let c = split(s, k, n, modulus);
         let m = reach(&c[0], k);
-        let x = rotate(c, m, k, n);
-        s = x;
-        k = k - m;
+        let next = rotate(c, m, k, n);
+        s = next;
+        k -= m;
     }
     s
 }

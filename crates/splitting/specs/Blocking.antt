@@ -25,14 +25,14 @@ use Rattle.basis.specs.Changes.{spread}
 use Rattle.basis.specs.Searches.{FirstNonzero}
 use Rattle.splitting.specs.Tails.{tail_of, tail_before, tail_low, tail_high, tail_upto, tail_field}
 use Rattle.splitting.specs.Reaching.{Reach, reach_is}
-use Rattle.splitting.specs.Tests.{NothingBehind, FirstUnkilled}
+use Rattle.splitting.specs.Tests.{NothingInRow, NothingBehind, FirstUnkilled}
 use Rattle.ordering.specs.Orders.{InOrder}
 
 module _ (p n k m a : ℕ) (s : State) (g : Given p n k s) (h : Headed (modulo p) k m (frame p n s)) (l : a + 1 < m) where
   -- row a + 1 has nothing from column m on
-  pub wiped_already : (q : ℕ) → FirstNonzero (cell (get_or s 0 []) (a + 1)) m k q → k ≤ q → Wiped (modulo p) n k m a (frame p n s) (frame p n s)
-  wiped_already q f e = wiped_none (modulo p) n k m a (frame p n s) (λ t b. elim (dec_lt t k) [
-    | yes c ↦ zero_entry p n (get_or s 0 []) (suc a) t (omega (arith, g.fits, h.fits)) (omega (arith, g.fits)) (ap (λ (i : ℕ). cell (get_or s 0 []) i t) (sym (add-one a)) ∙ f.zeros t b (omega arith))
+  pub wiped_already : NothingInRow m k (get_or s 0 []) (a + 1) → Wiped (modulo p) n k m a (frame p n s) (frame p n s)
+  wiped_already z = wiped_none (modulo p) n k m a (frame p n s) (λ t b. elim (dec_lt t k) [
+    | yes c ↦ zero_entry p n (get_or s 0 []) (suc a) t (omega (arith, g.fits, h.fits)) (omega (arith, g.fits)) (ap (λ (i : ℕ). cell (get_or s 0 []) i t) (sym (add-one a)) ∙ z t b c)
     | no c ↦ h.window.right (suc a) t (omega (arith, h.fits)) (omega arith)
   ])
 
@@ -67,15 +67,15 @@ clear_next p n k m r s t u l x y = let e : r ≡ suc (r - 1) = omega arith in
 
 -- row r has nothing from column m on
 pub clear_skips : (p n k m r : ℕ) (s t : State) → Given p n k t → Headed (modulo p) k m (frame p n t) → 0 < r → r < m → Cleared (modulo p) n k m r (frame p n s) (frame p n t)
-    → (q : ℕ) → FirstNonzero (cell (get_or t 0 []) r) m k q → k ≤ q → Cleared (modulo p) n k m (r - 1) (frame p n s) (frame p n t)
-clear_skips p n k m r s t g h l rm x q f e = clear_next p n k m r s t t l x (wiped_already p n k m (r - 1) t g h (omega arith) q (subst (λ (i : ℕ). FirstNonzero (cell (get_or t 0 []) i) m k q) (omega arith) f) e)
+    → NothingInRow m k (get_or t 0 []) r → Cleared (modulo p) n k m (r - 1) (frame p n s) (frame p n t)
+clear_skips p n k m r s t g h l rm x z = clear_next p n k m r s t t l x (wiped_already p n k m (r - 1) t g h (omega arith) (subst (NothingInRow m k (get_or t 0 [])) (omega arith) z))
 
-module _ (p n k m : ℕ) (s c : State) (g : Given p n k c) (h : Headed (modulo p) k m (frame p n s)) (x : Cleared (modulo p) n k m 0 (frame p n s) (frame p n c)) (j : ℕ) (f : FirstNonzero (cell (get_or c 0 []) 0) m k j) where
+module _ (p n k m : ℕ) (s c : State) (g : Given p n k c) (h : Headed (modulo p) k m (frame p n s)) (x : Cleared (modulo p) n k m 0 (frame p n s) (frame p n c)) where
   -- row 0 has nothing from column m on
-  pub settled_here : k ≤ j → Settled (modulo p) n k m (frame p n s) m (frame p n c)
-  settled_here e = settled_same (modulo p) n k m (frame p n s) (frame p n c) h x (λ t a b. zero_entry p n (get_or c 0 []) 0 t (omega (arith, g.fits)) (omega (arith, g.fits)) (f.zeros t a (omega arith)))
+  pub settled_here : NothingInRow m k (get_or c 0 []) 0 → Settled (modulo p) n k m (frame p n s) m (frame p n c)
+  settled_here z = settled_same (modulo p) n k m (frame p n s) (frame p n c) h x (λ t a b. zero_entry p n (get_or c 0 []) 0 t (omega (arith, g.fits)) (omega (arith, g.fits)) (z t a b))
 
-  module _ (l : j < k) (y : State) (o : InOrder n (rotation j (j + 1)) c y) where
+  module _ (j : ℕ) (f : FirstNonzero (cell (get_or c 0 []) 0) m k j) (l : j < k) (y : State) (o : InOrder n (rotation j (j + 1)) c y) where
     turned_change : Change (modulo p) n k (frame p n c) (frame p n y)
     turned_change = rotated_change (modulo p) n j (j + 1) k _ _ (omega arith) (omega arith) g.fits (frame_within p n c) (frame_within p n y) (o.reordered p)
 
@@ -150,7 +150,7 @@ probe_ends p n k m j s t kn a b x = probe_end (modulo p) n k m (frame p n s) (fr
 -- nothing is left behind the block, as a test says
 pub settled_already : (p n k m : ℕ) (c : State) → Given p n k c → Headed (modulo p) k m (frame p n c) → NothingBehind m k (get_or c 0 []) → Probing (modulo p) n k m m (frame p n c) (frame p n c)
 settled_already p n k m c g h z = probe_start (modulo p) n k m (frame p n c) h (headed_flat (modulo p) k m (frame p n c) h (λ i t a b l.
-    zero_entry p n (get_or c 0 []) i t (omega (arith, g.fits, h.fits)) (omega (arith, g.fits)) (z i t a b l)))
+    zero_entry p n (get_or c 0 []) i t (omega (arith, g.fits, h.fits)) (omega (arith, g.fits)) (z i a t b l)))
 
 -- a longer block was made, or nothing is left behind the block
 module _ (p n k m : ℕ) (s c : State) (g : Given p n k c) (x : (h : ℕ) × Settled (modulo p) n k m (frame p n s) h (frame p n c)) (r : ℕ) (z : Reach k (get_or c 0 []) r) where
@@ -175,11 +175,8 @@ module _ (p n k m : ℕ) (s c u : State) (g : Given p n k u) (x : Change (modulo
   pub split_ends : r ≤ m → (h : ℕ) × Split (modulo p) n k (frame p n s) h (frame p n u)
   split_ends l = (m, split_of_probed (modulo p) n k m (frame p n s) (frame p n c) y.0 (frame p n u) x y.1 (omega (arith, probed_is)))
 
-  pub split_change : Change (modulo p) n k (frame p n s) (frame p n u)
-  split_change = change_then (modulo p) n k x y.1.change
-
-  pub split_headed : Headed (modulo p) k r (frame p n u)
-  split_headed = subst (λ (q : ℕ). Headed (modulo p) k q (frame p n u)) probed_is y.1.headed
+  pub split_turn : Change (modulo p) n k (frame p n s) (frame p n u) × Headed (modulo p) k r (frame p n u)
+  split_turn = (change_then (modulo p) n k x y.1.change, subst (λ (q : ℕ). Headed (modulo p) k q (frame p n u)) probed_is y.1.headed)
 
 pub chained_reach : (p n k : ℕ) (s c : State) → Given p n k c → (m : ℕ) × Chained (modulo p) n k (frame p n s) m (frame p n c) → (r : ℕ) → Reach k (get_or c 0 []) r → Headed (modulo p) k r (frame p n c)
 chained_reach p n k s c g x r z = let h = chained_headed (modulo p) n k (frame p n s) x.0 (frame p n c) x.1 in

@@ -1,4 +1,5 @@
 -- The definitions and laws of the block that is split off.
+pub mod Finding
 pub mod Shapes
 pub mod Chain
 pub mod Killing

@@ -1,7 +1,9 @@
 -- The pass in code: what its steps say of the state.
-use Rattle.std.specs.Prelude.{◌≡◌, ◌≢◌, List, [], ℕ, suc, ◌+◌, ◌≤◌, ◌<◌, get_or}
+use Rattle.std.specs.Prelude.{◌≡◌, ◌≢◌, true, List, [], ℕ, suc, ◌+◌, ◌≤◌, ◌<◌, get_or, Option, Some, None}
+use Rattle.std.specs.Option.{is_some}
 use Rattle.std.proofs.Common.{sym, ◌∙◌, ap, ap₂, subst, add-one, arith}
 use Rattle.std.proofs.Math.Decide.{ℕ_discrete}
+use Rattle.std.proofs.lemmas.Bool.{false≢true}
 use Rattle.algebra.specs.Modular.{modulo}
 use Rattle.matrices.specs.Matrices.{cell, vector, matrix}
 use Rattle.ordering.specs.Exchange.{exchange}
@@ -10,8 +12,8 @@ use Rattle.basis.specs.Replace.{Replaced}
 use Rattle.splitting.specs.Pass.{Ready, Passed, passed_start, passed_then, Pulled, push_passes, pull_pulls, Chained, pass_ends}
 use Rattle.basis.specs.State.{Array, State, frame, frame_within, Given, prime_distinct, zero_entry, entry_nonzero, nonzero_entry, column_vector}
 use Rattle.ordering.specs.Orders.{InOrder}
-use Rattle.basis.specs.Searches.{column_of, column_of_at, FirstNonzero}
-use Rattle.splitting.specs.Reaching.{HasPivot, Reach}
+use Rattle.basis.specs.Searches.{column_of, column_of_at, FirstNonzero, Found}
+use Rattle.splitting.specs.Reaching.{HasPivot}
 
 module _ (p n k j q : ℕ) (s : State) (g : Given p n k s) (r : Ready (modulo p) k j (frame p n s)) (l : q < k) (f : FirstNonzero (λ i. cell (get_or s 0 []) i j) (j + 1) k q) where
   cell_zero : (i : ℕ) → j < i → i < q → matrix p n (get_or s 0 []) i j ≡ (modulo p).zero
@@ -42,25 +44,15 @@ pub chain_turn : (p n k j : ℕ) (s t u v : State) → Passed (modulo p) n k 0 (
 chain_turn p n k j s t u v x y z = rw (add-one j) (passed_then (modulo p) n k 0 j (suc j) (suc j) (suc j) (omega arith) (omega arith)
     (passed_then (modulo p) n k 0 j j j (suc j) (omega arith) (omega arith) x y.passed) z)
 
-pub chain_end : (p n k j q : ℕ) (s t : State) → Given p n k t → j < k → FirstNonzero (λ i. cell (get_or t 0 []) i j) (j + 1) k q → k ≤ q
+pub chain_end : (p n k j : ℕ) (s t : State) → Given p n k t → j < k → ((i : ℕ) → j + 1 ≤ i → i < k → cell (get_or t 0 []) i j ≡ 0)
     → Passed (modulo p) n k 0 (frame p n s) j j (frame p n t) → Chained (modulo p) n k (frame p n s) (suc j) (frame p n t)
-chain_end p n k j q s t g l f h x = pass_ends (modulo p) (prime_distinct p g.prime_p) n k j (frame p n s) (frame p n t) l x (λ i a b.
-    zero_entry p n (get_or t 0 []) i j (omega (arith, g.fits)) (omega (arith, g.fits)) (f.zeros i (omega arith) (omega arith)))
+chain_end p n k j s t g l z x = pass_ends (modulo p) (prime_distinct p g.prime_p) n k j (frame p n s) (frame p n t) l x (λ i a b.
+    zero_entry p n (get_or t 0 []) i j (omega (arith, g.fits)) (omega (arith, g.fits)) (z i (omega arith) (omega arith)))
 
 -- how far the pivots go
-pub reach_pivot : (k j q : ℕ) (b : Array) → FirstNonzero (λ i. cell b i j) (j + 1) k q → q < k → HasPivot k b j
-reach_pivot k j q b f l = (q, omega (arith, f.low), l, f.hit l)
+pub reach_pivot : (k j : ℕ) (b : Array) (r : Option ℕ) → Found (λ i. cell b i j) (j + 1) k r → is_some r ≡ true → HasPivot k b j
+reach_pivot k j b (Some q) f e = (q, omega (arith, f.0.low), f.1, f.0.hit f.1)
+reach_pivot k j b None f e = absurd (false≢true e)
 
 pub reach_turn : (k j : ℕ) (b : Array) → ((i : ℕ) → i < j → HasPivot k b i) → HasPivot k b j → (i : ℕ) → i < j + 1 → HasPivot k b i
 reach_turn k j b h v i l = elim (ℕ_discrete j i) [ yes e ↦ subst (HasPivot k b) e v | no e ↦ h i (omega arith) ]
-
-pub reach_stops : (k j q : ℕ) (b : Array) → j < k → FirstNonzero (λ i. cell b i j) (j + 1) k q → k ≤ q → ((i : ℕ) → i < j → HasPivot k b i) → Reach k b (j + 1)
-reach_stops k j q b l f h x = record {
-  some = omega arith;
-  fits = omega arith;
-  stop = λ i a c. ap (cell b i) (omega arith) ∙ f.zeros i a (omega arith);
-  on = λ i a. x i (omega arith);
-}
-
-pub reach_ends : (k j : ℕ) (b : Array) → j < k → k ≤ j + 1 → ((i : ℕ) → i < j → HasPivot k b i) → Reach k b k
-reach_ends k j b l h x = record { some = omega arith; fits = omega arith; stop = λ i a c. absurd (omega arith); on = λ i a. x i (omega arith) }

@@ -5,17 +5,16 @@ ghost use Rattle.algebra.specs.Choice.{below};
 ghost use Rattle.algebra.specs.Modular.{modulo};
 ghost use Rattle.matrices.specs.Matrices.{matrix, FieldRow, FieldMatrix};
 ghost use Rattle.basis.specs.Frame.{Window};
-ghost use Rattle.basis.specs.Remainders.{factor_of};
 ghost use Rattle.splitting.specs.Shapes.{CompanionRows};
 ghost use Rattle.splitting.specs.Settle.{Headed, Wiped, Cleared, Settled};
 ghost use Rattle.splitting.specs.Probe.{Joined, Probed, Split};
 ghost use Rattle.basis.specs.State.{frame, Fields, Given};
 ghost use Rattle.splitting.specs.Tails.{tail_of};
 ghost use Rattle.splitting.specs.Powers.{applied, KilledTest};
-ghost use Rattle.splitting.specs.Tests.{NothingBehind, FirstUnkilled};
+ghost use Rattle.splitting.specs.Tests.{NothingBehind, FirstUnkilled, FoundUnkilled};
 
 use crate::passes::{chain, first_pivot, reach};
-use basis::remainders::factor;
+use basis::remainders::Modulus;
 use basis::steps::{
     State, add_columns, add_multiple, column, combination, first_nonzero, inner, replace,
     with_entry,
@@ -24,82 +23,74 @@ use forms::ORDER;
 use matrices::{Mat, Row, unit_row};
 use ordering::turning::rotate;
 
-fn tail_entry(x: u8, j: usize, m: usize, p: u8) -> u8
-    requires { x < p }
-    ensures { result ≡ below m j 0 ((p - x) % p) }
-{
-    if j < m {
-        return 0;
-    }
-    (p - x) % p
-}
-
 // Minus the entries m .. k - 1 of x, and zeros.
-fn tail(x: Row, m: usize, k: usize, n: usize, p: u8) -> Row
-    requires { (n ≤ order_limit) × (k ≤ n) × FieldRow p n x }
-    ensures { result ≡ tail_of p m k x }
+fn tail(x: Row, m: usize, k: usize, n: usize, modulus: Modulus) -> Row
+    requires { (n ≤ order_limit) × (k ≤ n) × FieldRow modulus.p n x }
+    ensures { result ≡ tail_of modulus.p m k x }
 {
-    let mut r = [0u8; ORDER];
-    let mut j = 0;
-    while j < k {
-        r[j] = tail_entry(x[j], j, m, p);
-        j = j + 1;
+    let mut r = [0; ORDER];
+    for j in m..k {
+        r[j] = (modulus.p - x[j]) % modulus.p;
     }
     r
 }
 
 // Row a + 1 is wiped from column m on, by multiples of e_a.
-fn wipe(s: State, a: usize, m: usize, k: usize, n: usize, p: u8) -> State
-    requires { Given p n k s × Headed (modulo p) k m (frame p n s) × (a + 1 < m) }
-    ensures { Fields p n result × Wiped (modulo p) n k m a (frame p n s) (frame p n result) }
+fn wipe(s: State, a: usize, m: usize, k: usize, n: usize, modulus: Modulus) -> State
+    requires { Given modulus.p n k s × Headed (modulo modulus.p) k m (frame modulus.p n s) × (a + 1 < m) }
+    ensures { Fields modulus.p n result × Wiped (modulo modulus.p) n k m a (frame modulus.p n s) (frame modulus.p n result) }
 {
-    let v = tail(s[0][a + 1], m, k, n, p);
-    let mut c = add_columns(s, a, v, n, p);
-    let f = factor(p);
-    c[0][a] = add_multiple(c[0][a], p - 1, combination(v, c[0], n, p), p, f);
-    c[2][a] = add_multiple(c[2][a], p - 1, combination(v, c[2], n, p), p, f);
+    let v = tail(s[0][a + 1], m, k, n, modulus);
+    let mut c = add_columns(s, a, v, n, modulus);
+    c[0][a] = add_multiple(
+        c[0][a],
+        modulus.p - 1,
+        combination(v, c[0], n, modulus),
+        modulus,
+    );
+    c[2][a] = add_multiple(
+        c[2][a],
+        modulus.p - 1,
+        combination(v, c[2], n, modulus),
+        modulus,
+    );
     c
 }
 
 // Rows 1 .. m - 1 are wiped where they have something from column m on.
-fn clear(mut s: State, m: usize, k: usize, n: usize, p: u8) -> State
-    requires { Given p n k s × Headed (modulo p) k m (frame p n s) }
-    ensures { Fields p n result × Cleared (modulo p) n k m 0 (frame p n s) (frame p n result) }
+fn clear(mut s: State, m: usize, k: usize, n: usize, modulus: Modulus) -> State
+    requires { Given modulus.p n k s × Headed (modulo modulus.p) k m (frame modulus.p n s) }
+    ensures { Fields modulus.p n result × Cleared (modulo modulus.p) n k m 0 (frame modulus.p n s) (frame modulus.p n result) }
 {
-    let mut r = m - 1;
-    while 0 < r {
-        if first_nonzero(s[0][r], m, k) < k {
-            let x = wipe(s, r - 1, m, k, n, p);
-            s = x;
+    for r in (1..m).rev() {
+        if first_nonzero(s[0][r], m, k).is_some() {
+            let next = wipe(s, r - 1, m, k, n, modulus);
+            s = next;
         }
-        r = r - 1;
     }
     s
 }
 
 // Nothing is left behind the block, or a longer one is made.
-fn settle(s: State, m: usize, k: usize, n: usize, p: u8) -> State
-    requires { Given p n k s × Headed (modulo p) k m (frame p n s) }
-    ensures { Fields p n result × ((h : ℕ) × Settled (modulo p) n k m (frame p n s) h (frame p n result)) }
+fn settle(s: State, m: usize, k: usize, n: usize, modulus: Modulus) -> State
+    requires { Given modulus.p n k s × Headed (modulo modulus.p) k m (frame modulus.p n s) }
+    ensures { Fields modulus.p n result × ((h : ℕ) × Settled (modulo modulus.p) n k m (frame modulus.p n s) h (frame modulus.p n result)) }
 {
-    let c = clear(s, m, k, n, p);
-    let j = first_nonzero(c[0][0], m, k);
-    if k <= j {
+    let c = clear(s, m, k, n, modulus);
+    let Some(j) = first_nonzero(c[0][0], m, k) else {
         return c;
-    }
-    chain(rotate(c, j, j + 1, n), k, n, p)
+    };
+    chain(rotate(c, j, j + 1, n), k, n, modulus)
 }
 
 // b g
-fn apply(b: &Mat, g: Row, n: usize, p: u8, factor: u64) -> Row
-    requires { (n ≤ order_limit) × (0 < p) × (factor ≡ factor_of p) × FieldMatrix p n b.now }
-    ensures { result ≡ applied p n b.now g }
+fn apply(b: &Mat, g: Row, n: usize, modulus: Modulus) -> Row
+    requires { (n ≤ order_limit) × FieldMatrix modulus.p n b.now }
+    ensures { result ≡ applied modulus.p n b.now g }
 {
-    let mut r = [0u8; ORDER];
-    let mut i = 0;
-    while i < n {
-        r[i] = inner(b[i], g, p, factor);
-        i = i + 1;
+    let mut r = [0; ORDER];
+    for i in 0..n {
+        r[i] = inner(b[i], g, modulus);
     }
     r
 }
@@ -108,76 +99,66 @@ pub fn same_row(x: Row, y: Row, n: usize) -> bool
     requires { n ≤ order_limit }
     ensures { result ≡ true → (i : ℕ) → i < n → get_or x i 0 ≡ get_or y i 0 }
 {
-    let mut i = 0;
-    while i < n {
-        if x[i] != y[i] {
-            return false;
-        }
-        i = i + 1;
-    }
-    true
+    x[..n] == y[..n]
 }
 
 // Whether the polynomial of the block of m kills e_j, tried by powers of b.
-fn killed(b: &Mat, j: usize, m: usize, n: usize, p: u8) -> bool
-    requires { (n ≤ order_limit) × (0 < p) × (j < n) × (0 < m) × (m ≤ n) × FieldMatrix p n b.now }
-    ensures { KilledTest p n m j b.now result }
+fn killed(b: &Mat, j: usize, m: usize, n: usize, modulus: Modulus) -> bool
+    requires { (n ≤ order_limit) × (j < n) × (0 < m) × (m ≤ n) × FieldMatrix modulus.p n b.now }
+    ensures { KilledTest modulus.p n m j b.now result }
 {
-    let f = factor(p);
     let mut g = column(b, j, n);
-    let mut v = with_entry([0u8; ORDER], j, b[0][m - 1]);
-    let mut e = 1;
-    while e < m {
-        let y = add_multiple(v, b[e][m - 1], g, p, f);
-        let x = apply(b, g, n, p, f);
-        v = y;
-        g = x;
-        e = e + 1;
+    let mut v = with_entry([0; ORDER], j, b[0][m - 1]);
+    for e in 1..m {
+        let sum = add_multiple(v, b[e][m - 1], g, modulus);
+        let power = apply(b, g, n, modulus);
+        v = sum;
+        g = power;
     }
     same_row(g, v, n)
 }
 
 // A pass from e_0 + e_j.
-fn join(s: State, j: usize, k: usize, n: usize, p: u8) -> State
-    requires { Given p n k s × (0 < j) × (j < k) × Window (modulo p) k (matrix p n (get_or s 0 [])) }
-    ensures { Fields p n result × Joined (modulo p) n k j (frame p n s) (frame p n result) }
+fn join(s: State, j: usize, k: usize, n: usize, modulus: Modulus) -> State
+    requires { Given modulus.p n k s × (0 < j) × (j < k) × Window (modulo modulus.p) k (matrix modulus.p n (get_or s 0 [])) }
+    ensures { Fields modulus.p n result × Joined (modulo modulus.p) n k j (frame modulus.p n s) (frame modulus.p n result) }
 {
     let w = with_entry(unit_row(0), j, 1);
-    chain(replace(s, 0, w, n, p), k, n, p)
+    chain(replace(s, 0, w, n, modulus), k, n, modulus)
 }
 
-// The first vector from e_from on, below k, that the polynomial of the block of m is not found to kill; k if there is none.
-fn first_unkilled(b: &Mat, from: usize, m: usize, k: usize, n: usize, p: u8) -> usize
-    requires { (n ≤ order_limit) × (0 < p) × (from ≤ k) × (k ≤ n) × (0 < m) × (m ≤ n) × FieldMatrix p n b.now }
-    ensures { FirstUnkilled p n m from k b.now result }
+// The first vector from e_from on, below k, that the polynomial of the block of m is not found to kill.
+fn first_unkilled(
+    b: &Mat,
+    from: usize,
+    m: usize,
+    k: usize,
+    n: usize,
+    modulus: Modulus,
+) -> Option<usize>
+    requires { (n ≤ order_limit) × (from ≤ k) × (k ≤ n) × (0 < m) × (m ≤ n) × FieldMatrix modulus.p n b.now }
+    ensures { FoundUnkilled modulus.p n m from k b.now result }
 {
-    let mut j = from;
-    while j < k {
-        if !killed(b, j, m, n, p) {
-            return j;
-        }
-        j = j + 1;
-    }
-    k
+    (from..k).find(|&j| !killed(b, j, m, n, modulus))
 }
 
 // Nothing is left behind the block, and e_from is the first vector that is not found killed: a longer block is made, or the block's polynomial
 // kills the window.
-fn probe(mut s: State, from: usize, m: usize, k: usize, n: usize, p: u8) -> State
-    requires { Given p n k s × Headed (modulo p) k m (frame p n s) × CompanionRows (modulo p) m (matrix p n (get_or s 0 [])) × (from < k) × FirstUnkilled p n m m k (get_or s 0 []) from }
-    ensures { Fields p n result × ((h : ℕ) × Probed (modulo p) n k m (frame p n s) h (frame p n result)) }
+fn probe(mut s: State, from: usize, m: usize, k: usize, n: usize, modulus: Modulus) -> State
+    requires { Given modulus.p n k s × Headed (modulo modulus.p) k m (frame modulus.p n s) × CompanionRows (modulo modulus.p) m (matrix modulus.p n (get_or s 0 [])) × (from < k) × FirstUnkilled modulus.p n m m k (get_or s 0 []) from }
+    ensures { Fields modulus.p n result × ((h : ℕ) × Probed (modulo modulus.p) n k m (frame modulus.p n s) h (frame modulus.p n result)) }
 {
     let mut j = from;
     loop {
-        let x = join(s, j, k, n, p);
-        s = x;
+        let next = join(s, j, k, n, modulus);
+        s = next;
         if m < reach(&s[0], k) {
             return s;
         }
-        j = first_unkilled(&s[0], j + 1, m, k, n, p);
-        if k <= j {
+        let Some(q) = first_unkilled(&s[0], j + 1, m, k, n, modulus) else {
             return s;
-        }
+        };
+        j = q;
     }
 }
 
@@ -186,47 +167,38 @@ fn is_settled(b: &Mat, m: usize, k: usize) -> bool
     requires { (m ≤ k) × (k ≤ order_limit) }
     ensures { result ≡ true → NothingBehind m k b.now }
 {
-    let mut i = 0;
-    while i < m {
-        if first_nonzero(b[i], m, k) < k {
-            return false;
-        }
-        i = i + 1;
-    }
-    true
+    (0..m).all(|i| first_nonzero(b[i], m, k).is_none())
 }
 
 // The window becomes a block whose polynomial kills all of it, and the rest: each turn makes a longer block or is the last.
 // A state is handed on only where the matrix shows that there is something to do.
-pub fn split(s: State, k: usize, n: usize, p: u8) -> State
-    requires { Given p n k s × (0 < k) × Window (modulo p) k (matrix p n (get_or s 0 [])) }
-    ensures { Fields p n result × ((m : ℕ) × Split (modulo p) n k (frame p n s) m (frame p n result)) }
+pub fn split(mut s: State, k: usize, n: usize, modulus: Modulus) -> State
+    requires { Given modulus.p n k s × (0 < k) × Window (modulo modulus.p) k (matrix modulus.p n (get_or s 0 [])) }
+    ensures { Fields modulus.p n result × ((m : ℕ) × Split (modulo modulus.p) n k (frame modulus.p n s) m (frame modulus.p n result)) }
 {
-    let mut c = s;
-    if first_pivot(&c[0], 0, k) < k {
-        let y = chain(c, k, n, p);
-        c = y;
+    if first_pivot(&s[0], 0, k).is_some() {
+        let next = chain(s, k, n, modulus);
+        s = next;
     }
-    let mut m = reach(&c[0], k);
+    let mut m = reach(&s[0], k);
     loop {
-        if !is_settled(&c[0], m, k) {
-            let x = settle(c, m, k, n, p);
-            c = x;
-            let h = reach(&c[0], k);
+        if !is_settled(&s[0], m, k) {
+            let next = settle(s, m, k, n, modulus);
+            s = next;
+            let h = reach(&s[0], k);
             if m < h {
                 m = h;
                 continue;
             }
         }
-        let j = first_unkilled(&c[0], m, m, k, n, p);
-        if k <= j {
-            return c;
-        }
-        let x = probe(c, j, m, k, n, p);
-        c = x;
-        let h = reach(&c[0], k);
+        let Some(j) = first_unkilled(&s[0], m, m, k, n, modulus) else {
+            return s;
+        };
+        let next = probe(s, j, m, k, n, modulus);
+        s = next;
+        let h = reach(&s[0], k);
         if h <= m {
-            return c;
+            return s;
         }
         m = h;
     }

@@ -1,12 +1,9 @@
 -- The row is filled with the entries of b g.
-use Rattle.std.proofs.Common.{◌≤◌, ◌-◌, ◌≡◌, [], get_or}
+use Rattle.std.proofs.Common.{◌≡◌, [], get_or}
 use Rattle.matrices.specs.Filling.{filled}
 use Rattle.matrices.specs.Matrices.{zero_row}
 use Rattle.basis.specs.Steps.{entry_of}
 use Rattle.splitting.proofs.blocks.apply.Given as goal
 
 abbrev pub invariant-loop-i : goal.invariant-loop-i
-invariant-loop-i l = (l.i ≤ l.n) × (l.r ≡ filled l.i (λ i. entry_of l.p l.n (get_or l.b i []) l.g) zero_row)
-
-abbrev pub decreases-loop-i : goal.decreases-loop-i
-decreases-loop-i l = l.n - l.i
+invariant-loop-i l = l.r ≡ filled l.i (λ i. entry_of l.modulus.p l.n (get_or l.b i []) l.g) zero_row

@@ -1,19 +1,9 @@
--- All vectors passed are killed.
-use Rattle.std.proofs.Common.{rules, arith, ◌≡◌}
-use Rattle.splitting.specs.Tests.{unkilled_start, unkilled_turn}
+-- The first vector that is not found killed, as the search over the range has it.
+use Rattle.std.proofs.Common.{rules}
+use borrow.Author.Tests.{tests}
+use Rattle.std.proofs.lemmas.Iterator.{first_from_Range}
+use Rattle.splitting.specs.Tests.{KillsUnit, unkilled_in_range}
 use Rattle.splitting.proofs.blocks.first_unkilled.Goals as goal
 
-pub loop-j-init : goal.loop-j-init
-loop-j-init c = unkilled_start _ _ _ _ _ c.args.b.now (search rules)
-
-pub killed-requires : goal.killed-requires
-killed-requires c = (search rules, search rules, omega arith, search rules, search rules, c.requires.6)
-
-pub returns-then-not-killed : goal.returns-then-not-killed
-returns-then-not-killed c = c.loop-j.invariant
-
-pub loop-j-preserved : goal.loop-j-preserved
-loop-j-preserved c = unkilled_turn _ _ _ _ _ c.args.b.now _ (search rules) c.loop-j.invariant (c.killed.ensures.kills c.if-not-killed.false)
-
 pub returns : goal.returns
-returns c = let e : c.loop-j.j ≡ c.args.k = omega (arith, c.loop-j.invariant.high) in rw e at c.loop-j.invariant
+returns c = unkilled_in_range _ _ _ _ _ c.args.b.now c.find.result (search rules) (first_from_Range _ _ _ c.find.result (λ j. Unit {0}) (KillsUnit c.args.modulus.p c.args.n c.args.m c.args.b.now) c.find.ensures.ran (λ x q k. tt) (λ x q k. search (rules, tests)))

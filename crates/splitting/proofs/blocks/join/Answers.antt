@@ -5,9 +5,6 @@ use Rattle.basis.specs.State.{given_whole, given_next}
 use Rattle.splitting.specs.Blocking.{joined_first, joined_field, join_ready, joined}
 use Rattle.splitting.proofs.blocks.join.Goals as goal
 
-pub with_entry-w-requires : goal.with_entry-w-requires
-with_entry-w-requires c = omega (arith, c.requires.0.fits, c.requires.0.order)
-
 pub replace-requires : goal.replace-requires
 replace-requires c = (
   given_whole c.requires.0,

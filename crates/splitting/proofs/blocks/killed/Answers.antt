@@ -1,19 +1,13 @@
 -- The loop keeps the powers of b at e_j and the combination of those before, from the first power on, which is column j.
-use Rattle.std.proofs.Common.{rules, arith, ◌≡◌}
+use Rattle.std.proofs.Common.{arith, ◌≡◌}
 use Rattle.splitting.specs.Powers.{powered_start, powered_turn, powered_kills}
 use Rattle.splitting.proofs.blocks.killed.Goals as goal
 
 pub loop-e-init : goal.loop-e-init
-loop-e-init c = (search rules, rw (c.with_entry-v.ensures, c.column-g.ensures) (powered_start _ _ _ _ c.args.b.now (search rules) (search rules) (search rules) (search rules) (omega arith)))
-
-pub add_multiple-y-requires : goal.add_multiple-y-requires
-add_multiple-y-requires c = (search rules, c.factor-f.ensures)
-
-pub apply-x-requires : goal.apply-x-requires
-apply-x-requires c = (search rules, search rules, c.factor-f.ensures, c.requires.5)
+loop-e-init c = rw (c.with_entry-v.ensures, c.column-g.ensures) (powered_start _ _ _ _ c.args.b.now c.args.modulus.positive c.requires.0 c.requires.1 (omega arith) (omega arith))
 
 pub loop-e-preserved : goal.loop-e-preserved
-loop-e-preserved c = (search rules, rw (c.apply-x.ensures, c.add_multiple-y.ensures) (powered_turn _ _ _ _ c.args.b.now (search rules) (search rules) (search rules) _ _ _ (omega arith) (omega arith) c.loop-e.invariant.1))
+loop-e-preserved c = rw (c.apply-power.ensures, c.add_multiple-sum.ensures) (powered_turn _ _ _ _ c.args.b.now c.args.modulus.positive c.requires.0 c.requires.1 _ _ _ (omega arith) (omega arith) c.loop-e.invariant)
 
 pub returns : goal.returns
-returns c = record { kills = λ e. powered_kills _ _ _ _ c.args.b.now (search rules) (search rules) (search rules) _ _ (let q : c.loop-e.e ≡ c.args.m = omega arith in rw q at c.loop-e.invariant.1) (c.same_row.ensures e) }
+returns c = record { kills = λ e. powered_kills _ _ _ _ c.args.b.now c.args.modulus.positive c.requires.0 c.requires.1 _ _ (let q : c.loop-e.e ≡ c.args.m = omega arith in rw q at c.loop-e.invariant) (c.same_row.ensures e) }

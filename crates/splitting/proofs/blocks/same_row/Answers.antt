@@ -1,16 +1,10 @@
--- All entries passed are the same.
-use native.Mathlib.Decide.{ℕ_discrete}
-use Rattle.std.proofs.Common.{true≢false, sym, rules, arith}
+-- The first n entries are one list.
+use Rattle.std.proofs.Common.{◌∙◌, sym, ap, List, ℕ, take, get_or}
+use Rattle.std.proofs.lemmas.List.{get_or-take}
+use Rattle.std.proofs.lemmas.Slice.Eq.{slice_eq-Decides}
+use Rattle.std.proofs.lemmas.Bool.Decides.{Decides-eqb}
 use Rattle.splitting.proofs.blocks.same_row.Goals as goal
 
-pub loop-i-init : goal.loop-i-init
-loop-i-init c = (search rules, λ t l. absurd (omega arith))
-
-pub returns-then-x-i : goal.returns-then-x-i
-returns-then-x-i c = λ e. absurd (true≢false (sym e))
-
-pub loop-i-preserved : goal.loop-i-preserved
-loop-i-preserved c = (search rules, λ t l. elim (ℕ_discrete t c.loop-i.i) [ yes e ↦ rw e c.if-x-i.false | no o ↦ c.loop-i.invariant.1 t (omega arith) ])
-
 pub returns : goal.returns
-returns c = λ e t l. c.loop-i.invariant.1 t (omega arith)
+returns c = λ e i l. sym (get_or-take c.args.n c.args.x i 0 l)
+    ∙ ap (λ (z : List ℕ). get_or z i 0) ((slice_eq-Decides Decides-eqb (take c.args.n c.args.x) (take c.args.n c.args.y) _ c.eq.ensures).0 e) ∙ get_or-take c.args.n c.args.y i 0 l

@@ -6,8 +6,8 @@ use Rattle.basis.specs.Frame.{Change}
 use Rattle.splitting.specs.Settle.{Headed}
 use Rattle.splitting.proofs.blocks.split.Given as goal
 
-abbrev pub invariant-loop-c : goal.invariant-loop-c
-invariant-loop-c l = Fields l.p l.n l.c × Change (modulo l.p) l.n l.k (frame l.p l.n l.initial.c) (frame l.p l.n l.c) × Headed (modulo l.p) l.k l.m (frame l.p l.n l.c)
+abbrev pub invariant-loop-s : goal.invariant-loop-s
+invariant-loop-s l = Fields l.modulus.p l.n l.s × (Change (modulo l.modulus.p) l.n l.k (frame l.modulus.p l.n l.fn.s) (frame l.modulus.p l.n l.s) × Headed (modulo l.modulus.p) l.k l.m (frame l.modulus.p l.n l.s))
 
-abbrev pub decreases-loop-c : goal.decreases-loop-c
-decreases-loop-c l = l.k - l.m
+abbrev pub decreases-loop-s : goal.decreases-loop-s
+decreases-loop-s l = l.k - l.m

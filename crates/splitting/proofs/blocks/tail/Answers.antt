@@ -1,16 +1,10 @@
--- The row is filled with zeros up to m and with the opposites from there on.
-use Rattle.std.proofs.Common.{rules, arith}
-use Rattle.matrices.specs.Filling.{fill_start, fill_turn, fill_end}
+-- The opposites are there up to j.
+use Rattle.std.proofs.Common.{arith}
+use Rattle.splitting.specs.Tails.{tail_none, tail_turn}
 use Rattle.splitting.proofs.blocks.tail.Goals as goal
 
 pub loop-j-init : goal.loop-j-init
-loop-j-init c = (search rules, fill_start _ _)
-
-pub tail_entry-requires : goal.tail_entry-requires
-tail_entry-requires c = c.requires.2.small _ (omega arith)
+loop-j-init c = tail_none _ _ _ _ (omega arith) (omega arith)
 
 pub loop-j-preserved : goal.loop-j-preserved
-loop-j-preserved c = (search rules, fill_turn _ _ _ (search rules) c.loop-j.invariant.1 c.tail_entry.ensures)
-
-pub returns : goal.returns
-returns c = fill_end _ _ c.loop-j.invariant.1 c.loop-j.invariant.0 c.loop-j-test.false
+loop-j-preserved c = tail_turn _ _ _ _ _ _ (omega arith) (omega arith) (omega arith) c.loop-j.invariant

@@ -1,12 +1,7 @@
--- The row is filled with zeros up to m and with the opposites from there on.
-use Rattle.std.proofs.Common.{◌≤◌, ◌-◌, ◌%◌, ◌≡◌, get_or}
-use Rattle.matrices.specs.Filling.{filled}
-use Rattle.matrices.specs.Matrices.{zero_row}
-use Rattle.algebra.specs.Choice.{below}
+-- The opposites are there up to j.
+use Rattle.std.proofs.Common.{◌≡◌, min}
+use Rattle.splitting.specs.Tails.{tail_of}
 use Rattle.splitting.proofs.blocks.tail.Given as goal
 
 abbrev pub invariant-loop-j : goal.invariant-loop-j
-invariant-loop-j l = (l.j ≤ l.k) × (l.r ≡ filled l.j (λ j. below l.m j 0 ((l.p - get_or l.x j 0) % l.p)) zero_row)
-
-abbrev pub decreases-loop-j : goal.decreases-loop-j
-decreases-loop-j l = l.k - l.j
+invariant-loop-j l = l.r ≡ tail_of l.modulus.p l.m (min l.j l.k) l.x
