@@ -18,7 +18,8 @@ use Rattle.forms.specs.ClosedForms.{opposite, P_row, PI_column, Q_column, QI_row
 use Rattle.matrices.specs.Matrices.{cell}
 use Rattle.basis.specs.State.{Array, State}
 use Rattle.heads.specs.Heads.{begins, LastRows, Ordered}
-use Rattle.entries.specs.Coefficients.{block_coefficient, D_coefficient, D_entry, P_coefficient, PI_coefficient, head_sum, Q_coefficient, QI_coefficient, closed_coefficient, side, closed_entry}
+use Rattle.entries.specs.declared.closed.Factor.TheVariants.{P, PInverse, Q, QInverse}
+use Rattle.entries.specs.Coefficients.{block_coefficient, D_coefficient, D_entry, P_coefficient, PI_coefficient, head_sum, Q_coefficient, QI_coefficient, closed_coefficient, closed_entry}
 use Rattle.payloads.specs.Diagonals.{DiagonalOf}
 use Rattle.payloads.specs.Blocks.{begins_is, last_is, coefficient_is, from_is}
 
@@ -127,18 +128,18 @@ module _ (p n : ℕ) (s : State) (f : ℕ → Coefficients) (D : DiagonalOf p n 
   below : (b : ℕ) → b < n → from (degrees n f) n b < n
   below = row_below p n (get_or s 0 []) f D rows ends ordered ending
 
-  pub PL_is : closed_entry p s rows ends 3 r c k ≡ closed_P n f TI r c k
-  unfolding closed_entry side closed_coefficient closed_P
+  pub PL_is : closed_entry p s rows ends P r c k ≡ closed_P n f TI r c k
+  unfolding closed_entry closed_coefficient closed_P
   PL_is = rw (end_is r l, row_is r l) (P_row_is p n (get_or s 0 []) f D (get_or s 2 []) TI TI_holds _ c k (below r l) g)
 
-  pub PI_is : closed_entry p s rows ends 4 r c k ≡ closed_PI p n f T r c k
-  unfolding closed_entry side closed_coefficient closed_PI
+  pub PI_is : closed_entry p s rows ends PInverse r c k ≡ closed_PI p n f T r c k
+  unfolding closed_entry closed_coefficient closed_PI
   PI_is = rw (row_is c g) (PI_column_is p n (get_or s 0 []) f D (get_or s 1 []) T T_holds r _ k l (below c g))
 
-  pub QR_is : closed_entry p s rows ends 5 r c k ≡ closed_Q p n f T r c k
-  unfolding closed_entry side closed_coefficient closed_Q
+  pub QR_is : closed_entry p s rows ends Q r c k ≡ closed_Q p n f T r c k
+  unfolding closed_entry closed_coefficient closed_Q
   QR_is = rw (end_is c g, row_is c g) (Q_column_is p n (get_or s 0 []) f D (get_or s 1 []) T T_holds r _ k l (below c g))
 
-  pub QI_is : closed_entry p s rows ends 6 r c k ≡ closed_QI p n f TI r c k
-  unfolding closed_entry side closed_coefficient closed_QI
+  pub QI_is : closed_entry p s rows ends QInverse r c k ≡ closed_QI p n f TI r c k
+  unfolding closed_entry closed_coefficient closed_QI
   QI_is = rw (end_is r l, row_is r l) (QI_row_is p n (get_or s 0 []) f D (get_or s 2 []) TI TI_holds _ c k (below r l) g)

@@ -29,7 +29,10 @@ use Rattle.matrices.specs.Matrices.{cell, matrix, FieldMatrix}
 use Rattle.basis.specs.State.{Array, State, Fields}
 use Rattle.elimination.specs.Reduced.{Reduced}
 use Rattle.heads.specs.Heads.{LastRows, Ordered}
-use Rattle.entries.specs.Coefficients.{Small, SmallState, Tables, D_entry, closed_entry}
+use Rattle.entries.specs.declared.closed.Factor.{Factor}
+use Rattle.entries.specs.declared.closed.Factor.TheVariants.{P, PInverse, Q, QInverse}
+use Rattle.entries.specs.declared.closed.Reduction.{Reduction}
+use Rattle.entries.specs.Coefficients.{Small, SmallState, Tables, D_entry, closed_entry, record_of}
 use Rattle.entries.specs.Listing.{listed_equal, joined_equal, matrix_rows, polynomial_rows, polynomials_listed_equal, diagonal_listed, diagonal_rows, diagonal_listed_residues, diagonal_of_listed}
 use Rattle.payloads.specs.Diagonals.{DiagonalOf, diagonal_of_form}
 use Rattle.payloads.specs.ClosedCoefficients.{Holds, D_is, PL_is, PI_is, QR_is, QI_is}
@@ -41,8 +44,8 @@ matrix_payload n m = joined n (λ i. listed n (cell m i))
 abbrev pub diagonal_payload : ℕ → ℕ → Array → List ℕ → List ℕ → List ℕ
 diagonal_payload p n F rows ends = joined n (λ b. listed (n + 1) (D_entry p F rows ends b))
 
-abbrev pub polynomial_payload : ℕ → ℕ → State → List ℕ → List ℕ → ℕ → List ℕ
-polynomial_payload p n s rows ends kind = joined n (λ r. joined n (λ c. listed n (closed_entry p s rows ends kind r c)))
+abbrev pub polynomial_payload : ℕ → ℕ → State → List ℕ → List ℕ → Factor → List ℕ
+polynomial_payload p n s rows ends factor = joined n (λ r. joined n (λ c. listed n (closed_entry p s rows ends factor r c)))
 
 unfoldable pub written : ℕ → ℕ → List ℕ → State → List ℕ → List ℕ → Certificate
 written p n A s rows ends = record {
@@ -50,53 +53,61 @@ written p n A s rows ends = record {
   n = n;
   MA = A;
   DF = diagonal_payload p n (get_or s 0 []) rows ends;
-  PL = polynomial_payload p n s rows ends 3;
-  PI = polynomial_payload p n s rows ends 4;
-  QR = polynomial_payload p n s rows ends 5;
-  QI = polynomial_payload p n s rows ends 6;
+  PL = polynomial_payload p n s rows ends P;
+  PI = polynomial_payload p n s rows ends PInverse;
+  QR = polynomial_payload p n s rows ends Q;
+  QI = polynomial_payload p n s rows ends QInverse;
   FB = matrix_payload n (get_or s 0 []);
   TB = matrix_payload n (get_or s 1 []);
   TI = matrix_payload n (get_or s 2 []);
 }
 
+-- the same of a reduction and the matrix that it was made of
+abbrev pub certificate_of : Reduction → List ℕ → Certificate
+certificate_of form A = written form.modulus.p form.n A form.state.now form.from form.last
+
 -- its payloads, by their numbers, with their sizes
-module _ (p n : ℕ) (A : List ℕ) (s : State) (rows ends : List ℕ) (k : ℕ) where
+module _ (form : Reduction) (A : List ℕ) (k : ℕ) where
   abbrev Payload : ℕ → List ℕ → ℕ → Type 0
-  Payload k bytes many = (bytes ≡ payload (written p n A s rows ends) k) × (size n k ≡ many)
+  Payload k bytes many = (bytes ≡ payload (certificate_of form A) k) × (size form.n k ≡ many)
 
-  pub header_payload : k ≡ 0 → Payload k (p ∷ n ∷ []) 2
+  pub header_payload : k ≡ 0 → Payload k (form.modulus.p ∷ form.n ∷ []) 2
   unfolding payload size written
-  header_payload e = subst (λ (i : ℕ). Payload i (p ∷ n ∷ []) 2) (sym e) (refl, refl)
+  header_payload e = subst (λ (i : ℕ). Payload i (form.modulus.p ∷ form.n ∷ []) 2) (sym e) (refl, refl)
 
-  pub given_payload : k ≡ 1 → Payload k A (n * n)
+  pub given_payload : k ≡ 1 → Payload k A (form.n * form.n)
   unfolding payload size written
-  given_payload e = subst (λ (i : ℕ). Payload i A (n * n)) (sym e) (refl, refl)
+  given_payload e = subst (λ (i : ℕ). Payload i A (form.n * form.n)) (sym e) (refl, refl)
 
-  pub smith_payload : k ≡ 2 → Payload k (diagonal_payload p n (get_or s 0 []) rows ends) (n * suc n)
+  pub smith_payload : k ≡ 2 → Payload k (diagonal_payload form.modulus.p form.n (get_or form.state.now 0 []) form.from form.last) (form.n * suc form.n)
   unfolding payload size written
-  smith_payload e = subst (λ (i : ℕ). Payload i (diagonal_payload p n (get_or s 0 []) rows ends) (n * suc n)) (sym e) (refl, refl)
+  smith_payload e = subst (λ (i : ℕ). Payload i (diagonal_payload form.modulus.p form.n (get_or form.state.now 0 []) form.from form.last) (form.n * suc form.n)) (sym e) (refl, refl)
 
-  pub closed_payload : 2 < k → k < 7 → Payload k (polynomial_payload p n s rows ends k) (n * n * n)
-  unfolding payload size written
-  closed_payload l h = ten_cases (λ i. 2 < i → i < 7 → Payload i (polynomial_payload p n s rows ends i) (n * n * n))
-      (λ a b. absurd (omega arith)) (λ a b. absurd (omega arith)) (λ a b. absurd (omega arith)) (λ a b. (refl, refl)) (λ a b. (refl, refl)) (λ a b. (refl, refl)) (λ a b. (refl, refl))
-      (λ a b. absurd (omega arith)) (λ a b. absurd (omega arith)) (λ a b. absurd (omega arith)) k (omega arith) l h
+  pub closed_payload : (factor : Factor) → k ≡ record_of factor → Payload k (polynomial_payload form.modulus.p form.n form.state.now form.from form.last factor) (form.n * form.n * form.n)
+  unfolding payload size written record_of
+  closed_payload factor e = subst (λ (i : ℕ). Payload i (polynomial_payload form.modulus.p form.n form.state.now form.from form.last factor) (form.n * form.n * form.n)) (sym e) (each factor)
+    where
+      each : (factor : Factor) → Payload (record_of factor) (polynomial_payload form.modulus.p form.n form.state.now form.from form.last factor) (form.n * form.n * form.n)
+      each P = (refl, refl)
+      each PInverse = (refl, refl)
+      each Q = (refl, refl)
+      each QInverse = (refl, refl)
 
-  pub field_payload : 7 ≤ k → k < 10 → Payload k (matrix_payload n (get_or s (k - 7) [])) (n * n)
+  pub field_payload : 7 ≤ k → k < 10 → Payload k (matrix_payload form.n (get_or form.state.now (k - 7) [])) (form.n * form.n)
   unfolding payload size written
-  field_payload l h = ten_cases (λ i. 7 ≤ i → Payload i (matrix_payload n (get_or s (i - 7) [])) (n * n))
+  field_payload l h = ten_cases (λ i. 7 ≤ i → Payload i (matrix_payload form.n (get_or form.state.now (i - 7) [])) (form.n * form.n))
       (λ a. absurd (omega arith)) (λ a. absurd (omega arith)) (λ a. absurd (omega arith)) (λ a. absurd (omega arith)) (λ a. absurd (omega arith)) (λ a. absurd (omega arith)) (λ a. absurd (omega arith))
       (λ a. (refl, refl)) (λ a. (refl, refl)) (λ a. (refl, refl)) k h l
 
 -- what is laid out says of the order and of the matrix
-module _ (p n : ℕ) (A : List ℕ) (s : State) (rows ends : List ℕ) (laid : LaidOut (written p n A s rows ends)) where
-  pub written_order : n ≤ order_limit
+module _ (form : Reduction) (A : List ℕ) (laid : LaidOut (certificate_of form A)) where
+  pub written_order : form.n ≤ order_limit
   unfolding written
   written_order = laid.high
 
-  pub written_length : length A ≡ n * n
+  pub written_length : length A ≡ form.n * form.n
   unfolding written
-  written_length = (MA_residues (written p n A s rows ends) laid).many
+  written_length = (MA_residues (certificate_of form A) laid).many
 
 pub field_small : (p n : ℕ) (m : Array) → 0 < p → FieldMatrix p n m → Small p m
 field_small p n m q h = record {
@@ -190,11 +201,11 @@ module _ (p n : ℕ) (A : List ℕ) (legal : Legal p n A) (M : Array) (given : H
     }
 
     -- a payload of polynomials
-    payload_is : (kind : ℕ) (P : (ℕ → Coefficients) → PolynomialEntries) → ((r c k : ℕ) → r < n → c < n → closed_entry p s rows ends kind r c k ≡ P f r c k)
-        → polynomial_payload p n s rows ends kind ≡ polynomials_listed n (P (diagonal n DF))
-    payload_is kind P h =
-        polynomial_rows n (closed_entry p s rows ends kind) ∙ polynomials_listed_equal n _ _ legal.low (λ r c k l g q. h r c k l g)
-        ∙ ap (λ (g : ℕ → Coefficients). polynomials_listed n (P g)) (sym diagonal_is)
+    payload_is : (factor : Factor) (form : (ℕ → Coefficients) → PolynomialEntries) → ((r c k : ℕ) → r < n → c < n → closed_entry p s rows ends factor r c k ≡ form f r c k)
+        → polynomial_payload p n s rows ends factor ≡ polynomials_listed n (form (diagonal n DF))
+    payload_is factor form h =
+        polynomial_rows n (closed_entry p s rows ends factor) ∙ polynomials_listed_equal n _ _ legal.low (λ r c k l g q. h r c k l g)
+        ∙ ap (λ (g : ℕ → Coefficients). polynomials_listed n (form g)) (sym diagonal_is)
 
     written_closed : written p n A s rows ends ≡ closed_certificate p n A DF FB TB TI_bytes
     unfolding written closed_certificate
@@ -203,10 +214,10 @@ module _ (p n : ℕ) (A : List ℕ) (legal : Legal p n A) (M : Array) (given : H
       n = n;
       MA = A;
       DF = DF;
-      PL = payload_is 3 (λ g. closed_P n g TI_entries) (PL_is p n s f D rows ends ordered ending T_entries TI_entries T_holds TI_holds) x;
-      PI = payload_is 4 (λ g. closed_PI p n g T_entries) (PI_is p n s f D rows ends ordered ending T_entries TI_entries T_holds TI_holds) x;
-      QR = payload_is 5 (λ g. closed_Q p n g T_entries) (QR_is p n s f D rows ends ordered ending T_entries TI_entries T_holds TI_holds) x;
-      QI = payload_is 6 (λ g. closed_QI p n g TI_entries) (QI_is p n s f D rows ends ordered ending T_entries TI_entries T_holds TI_holds) x;
+      PL = payload_is P (λ g. closed_P n g TI_entries) (PL_is p n s f D rows ends ordered ending T_entries TI_entries T_holds TI_holds) x;
+      PI = payload_is PInverse (λ g. closed_PI p n g T_entries) (PI_is p n s f D rows ends ordered ending T_entries TI_entries T_holds TI_holds) x;
+      QR = payload_is Q (λ g. closed_Q p n g T_entries) (QR_is p n s f D rows ends ordered ending T_entries TI_entries T_holds TI_holds) x;
+      QI = payload_is QInverse (λ g. closed_QI p n g TI_entries) (QI_is p n s f D rows ends ordered ending T_entries TI_entries T_holds TI_holds) x;
       FB = FB;
       TB = TB;
       TI = TI_bytes;

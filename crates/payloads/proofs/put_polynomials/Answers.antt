@@ -10,22 +10,19 @@ use Rattle.payloads.proofs.put_polynomials.Goals as goal
 rows : (at n : ℕ) (entry : ℕ → ℕ → ℕ → ℕ) (out : List ℕ) → at + n * n * n ≤ length out → Rows at n (n * n) (λ r. joined n (λ c. listed n (entry r c))) out
 rows at n entry out room = record { long = λ r. joined_rows_length n _ (λ c. listed_length _ _) n; room = omega (arith, room, mul_assoc n n n) }
 
-pub factor-f-requires : goal.factor-f-requires
-factor-f-requires c = omega (arith, c.requires.3.F.entry 0 0)
-
 pub loop-r-init : goal.loop-r-init
-loop-r-init c = rows_start (rows c.args.at c.args.n (closed_entry c.args.p c.args.s.now c.args.from.now c.args.last.now c.args.kind) c.args.out.now c.requires.1)
+loop-r-init c = rows_start (rows c.args.at c.args.form.now.n (closed_entry c.args.form.now.modulus.p c.args.form.now.state.now c.args.form.now.from c.args.form.now.last c.args.factor) c.args.out.now c.requires)
 
 pub put_line-next-requires : goal.put_line-next-requires
 put_line-next-requires c =
     let l = c.loop-r in
-    (omega arith, c.requires.0, rows_room (rows c.args.at c.args.n (closed_entry c.args.p c.args.s.now c.args.from.now c.args.last.now c.args.kind) c.args.out.now c.requires.1) (omega arith) l.invariant l.auto.out, c.requires.2, c.requires.3, c.factor-f.ensures)
+    (omega arith, rows_room (rows c.args.at c.args.form.now.n (closed_entry c.args.form.now.modulus.p c.args.form.now.state.now c.args.form.now.from c.args.form.now.last c.args.factor) c.args.out.now c.requires) (omega arith) l.invariant l.auto.out)
 
 pub loop-r-preserved : goal.loop-r-preserved
 loop-r-preserved c =
     let l = c.loop-r in
     let w = c.put_line-next in
-    rows_turn (rows c.args.at c.args.n (closed_entry c.args.p c.args.s.now c.args.from.now c.args.last.now c.args.kind) c.args.out.now c.requires.1) (omega arith) l.invariant w.ensures
+    rows_turn (rows c.args.at c.args.form.now.n (closed_entry c.args.form.now.modulus.p c.args.form.now.state.now c.args.form.now.from c.args.form.now.last c.args.factor) c.args.out.now c.requires) (omega arith) l.invariant w.ensures
 
 pub returns : goal.returns
-returns c = let l = c.loop-r in rows_end (rows c.args.at c.args.n (closed_entry c.args.p c.args.s.now c.args.from.now c.args.last.now c.args.kind) c.args.out.now c.requires.1) l.auto.r-end c.loop-r-test.false l.invariant
+returns c = let l = c.loop-r in rows_end (rows c.args.at c.args.form.now.n (closed_entry c.args.form.now.modulus.p c.args.form.now.state.now c.args.form.now.from c.args.form.now.last c.args.factor) c.args.out.now c.requires) l.auto.r-end c.loop-r-test.false l.invariant

@@ -4,9 +4,6 @@ use borrow.Author.Tests.{lt-leb}
 use Rattle.entries.specs.Coefficients.{block_coefficient}
 use Rattle.entries.proofs.closed.block_coefficient.Goals as goal
 
-pub opposite-requires : goal.opposite-requires
-opposite-requires c = c.requires.1.entry _ _
-
 pub returns-then-j-end : goal.returns-then-j-end
 unfolding block_coefficient
 returns-then-j-end c = simp (le-leb _ _ c.if-j-end.true) c.opposite.ensures

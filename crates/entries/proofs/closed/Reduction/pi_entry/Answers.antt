@@ -11,9 +11,6 @@ returns-then-is_head c = one_coefficient _ _ _ (PI_first _ _ _ _ _) (omega arith
 pub overflow_sub-i : goal.overflow_sub-i
 overflow_sub-i c = omega (arith, begins_not_first _ _ (sym c.is_head.ensures ∙ c.if-is_head.false))
 
-pub opposite-requires : goal.opposite-requires
-opposite-requires c = c.args.self.now.small.T.entry _ _
-
 pub bounds-out-start-2 : goal.bounds-out-start-2
 bounds-out-start-2 c = omega (arith, length-set {A = ℕ}, begins_not_first _ _ (sym c.is_head.ensures ∙ c.if-is_head.false))
 

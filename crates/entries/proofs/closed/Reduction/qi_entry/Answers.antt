@@ -11,17 +11,5 @@ returns-then-is_head c = let head = sym c.is_head.ensures ∙ c.if-is_head.true 
 pub overflow_sub-i : goal.overflow_sub-i
 overflow_sub-i c = omega (arith, begins_not_first _ _ (sym c.is_head.ensures ∙ c.if-is_head.false))
 
-pub opposite-requires : goal.opposite-requires
-opposite-requires c = c.args.self.now.small.TI.entry _ _
-
 pub returns-then-ti-end-eq0 : goal.returns-then-ti-end-eq0
 returns-then-ti-end-eq0 c = let other = sym c.is_head.ensures ∙ c.if-is_head.false in one_coefficient _ _ _ (c.opposite.ensures ∙ QI_zero_first _ _ _ _ _ _ other c.if-ti-end-eq0.true) (omega arith) (omega arith) (QI_zero_short _ _ _ _ _ _ other c.if-ti-end-eq0.true)
-
-pub multiple_entry-requires : goal.multiple_entry-requires
-multiple_entry-requires c = (c.requires.0, c.requires.1, c.requires.2, c.requires.3, sym c.is_head.ensures ∙ c.if-is_head.false)
-
-pub shape_of-out : goal.shape_of-out
-shape_of-out c = omega (arith, c.multiple_entry.auto)
-
-pub returns : goal.returns
-returns c = c.multiple_entry.ensures
