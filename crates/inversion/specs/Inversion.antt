@@ -1,9 +1,8 @@
 -- The inverse of a field matrix, by elimination on M and S with S A = M: what each step needs and keeps, and what the answer is.
-use Rattle.std.specs.Prelude.{◌≡◌, refl, ◌≢◌, Option, Some, None, MatchOption, IfSome, List, ℕ, ◌+◌, ◌*◌, ◌-◌, ◌%◌, ◌≤◌, ◌<◌, T, get_or}
+use Rattle.std.specs.Prelude.{◌≡◌, refl, ◌≢◌, Option, Some, None, MatchOption, IfSome, List, ℕ, ◌+◌, ◌*◌, ◌-◌, ◌%◌, ◌≤◌, ◌<◌, get_or}
 use Rattle.std.proofs.Common.{sym, ◌∙◌, ap, ap₂, add-one, mod-lt, le_antisymm, arith}
 use Rattle.std.proofs.Math.Decide.{ℕ_discrete}
-use Rattle.forms.specs.Numbers.{prime, order_limit}
-use Rattle.forms.specs.Primes.{prime_positive}
+use Rattle.forms.specs.Numbers.{order_limit}
 use Rattle.forms.specs.Reciprocals.{InverseOf}
 use Rattle.algebra.specs.Ring.{zero_plus, one_times}
 use Rattle.algebra.specs.Sum.{delta, delta_same, delta_symmetric}
@@ -79,8 +78,6 @@ eliminating_end p n j a m s l g x = record {
 
 -- before a multiple of row `from` makes the entry (i, j) that of E: d is the reciprocal of the entry (from, j), and only row j is ever multiplied
 pub record PlaceReady (p n i j from d : ℕ) (m : List (List ℕ)) : Type 0 where
-  pub upto : n ≤ order_limit
-  pub modulus : 0 < p
   pub row : i < n
   pub column : j < n
   pub source : from < n
@@ -93,7 +90,7 @@ pub record PlacedIn (p n i j : ℕ) (m s u v : List (List ℕ)) : Type 0 where
   pub placed : Placed (modulo p) n i j (matrix p n m) (matrix p n u)
   pub keeps : (a : List (List ℕ)) → Eliminating p n j a m s → Eliminating p n j a u v
 
-module _ (p n i j from d : ℕ) (m : List (List ℕ)) (h : PlaceReady p n i j from d m) where
+module _ (p n i j from d : ℕ) (m : List (List ℕ)) (upto : n ≤ order_limit) (positive : 0 < p) (h : PlaceReady p n i j from d m) where
   open modulo p use {plus as ◌⊕◌, times as ◌⊗◌, minus as ⊖◌, zero as 𝟘, one as 𝟙}
 
   infixl 60 ◌⊕◌
@@ -104,15 +101,15 @@ module _ (p n i j from d : ℕ) (m : List (List ℕ)) (h : PlaceReady p n i j fr
 
   difference_is : (y : ℕ) → y ≡ (p - cell m i j % p + 1 * get_or (unit_row j) i 0) % p → residue p y ≡ ⊖ M i j ⊕ delta (modulo p) i j
   difference_is y e =
-      let l : cell m i j % p < p = mod-lt _ h.modulus in
-      ap (residue p) e ∙ residue_plus_multiple p _ 1 _ h.modulus
+      let l : cell m i j % p < p = mod-lt _ positive in
+      ap (residue p) e ∙ residue_plus_multiple p _ 1 _ positive
       ∙ ap₂ ◌⊕◌
-      (residue_minus p (cell m i j % p) (omega arith) h.modulus ∙ ap ⊖◌ (residue_remainder p _ h.modulus ∙ sym (matrix_inside p n m i j h.row h.column)))
-      (ap₂ ◌⊗◌ (residue_one p) (unit_row_at j (omega (arith, h.column, h.upto)) p i ∙ delta_symmetric (modulo p) j i) ∙ one_times (modulo p) _)
+      (residue_minus p (cell m i j % p) (omega arith) positive ∙ ap ⊖◌ (residue_remainder p _ positive ∙ sym (matrix_inside p n m i j h.row h.column)))
+      (ap₂ ◌⊗◌ (residue_one p) (unit_row_at j (omega (arith, h.column, upto)) p i ∙ delta_symmetric (modulo p) j i) ∙ one_times (modulo p) _)
 
   factor_is : (y k : ℕ) → y ≡ (p - cell m i j % p + 1 * get_or (unit_row j) i 0) % p → k ≡ (0 + y * d) % p → residue p k ≡ place_factor (modulo p) n i j (residue p d) M
   factor_is y k e f =
-      ap (residue p) f ∙ residue_plus_multiple p 0 y d h.modulus ∙ ap (λ x. x ⊕ residue p y ⊗ residue p d) (residue_zero p) ∙ zero_plus (modulo p) _
+      ap (residue p) f ∙ residue_plus_multiple p 0 y d positive ∙ ap (λ x. x ⊕ residue p y ⊗ residue p d) (residue_zero p) ∙ zero_plus (modulo p) _
       ∙ ap (λ x. x ⊗ residue p d) (difference_is y e)
 
   pub placed_in : (s u v : List (List ℕ)) (e : List ℕ) (y k : ℕ) → e ≡ unit_row j → y ≡ (p - cell m i j % p + 1 * get_or e i 0) % p → k ≡ (0 + y * d) % p
@@ -138,10 +135,8 @@ pub record Clearing (p n j i : ℕ) (m s u v : List (List ℕ)) : Type 0 where
 pub clearing_start : (p n j : ℕ) (m s u v : List (List ℕ)) → PlacedIn p n j j m s u v → Clearing p n j 0 u v u v
 clearing_start p n j m s u v x = record { pivot = x.placed.entry ∙ delta_same (modulo p) j; done = λ t l. absurd (omega arith); keeps = λ a y. y }
 
-pub clearing_ready : (p n j i : ℕ) (m s u v : List (List ℕ)) → n ≤ order_limit → 0 < p → j < n → i < n → Clearing p n j i m s u v → PlaceReady p n i j j 1 u
-clearing_ready p n j i m s u v o h l g x = record {
-  upto = o;
-  modulus = h;
+pub clearing_ready : (p n j i : ℕ) (m s u v : List (List ℕ)) → j < n → i < n → Clearing p n j i m s u v → PlaceReady p n i j j 1 u
+clearing_ready p n j i m s u v l g x = record {
   row = g;
   column = l;
   source = l;
@@ -157,27 +152,17 @@ clearing_turn p n j i m s u v y z x q = record {
   keeps = λ a w. q.keeps a (x.keeps a w);
 }
 
--- a pivot of column j, at row q
-pub record PivotReady (p n j q : ℕ) (m : List (List ℕ)) : Type 0 where
-  pub prime : T (prime p)
-  pub upto : n ≤ order_limit
-  pub pivot : Pivot p n j m q
-
-pub pivot_ready : (p n j q d : ℕ) (m : List (List ℕ)) → PivotReady p n j q m → InverseOf p (cell m q j % p) d → PlaceReady p n j j q d m
-pivot_ready p n j q d m h r =
-    let positive = prime_positive p h.prime in
-    record {
-      upto = h.upto;
-      modulus = positive;
-      row = omega (arith, h.pivot.low, h.pivot.high);
-      column = omega (arith, h.pivot.low, h.pivot.high);
-      source = h.pivot.high;
-      reached = h.pivot.low;
-      own = λ e. refl;
-      reciprocal =
-          ap (λ x. (modulo p).times x (residue p d)) (matrix_inside p n m q j h.pivot.high (omega (arith, h.pivot.low, h.pivot.high)) ∙ sym (residue_remainder p _ positive))
-          ∙ sym (residue_times p _ d) ∙ sym (residue_remainder p _ positive) ∙ ap (residue p) (r.of_other (omega (arith, h.pivot.hit))) ∙ residue_one p;
-    }
+pub pivot_ready : (p n j q d : ℕ) (m : List (List ℕ)) → 0 < p → Pivot p n j m q → InverseOf p (cell m q j % p) d → PlaceReady p n j j q d m
+pivot_ready p n j q d m positive h r = record {
+  row = omega (arith, h.low, h.high);
+  column = omega (arith, h.low, h.high);
+  source = h.high;
+  reached = h.low;
+  own = λ e. refl;
+  reciprocal =
+      ap (λ x. (modulo p).times x (residue p d)) (matrix_inside p n m q j h.high (omega (arith, h.low, h.high)) ∙ sym (residue_remainder p _ positive))
+      ∙ sym (residue_times p _ d) ∙ sym (residue_remainder p _ positive) ∙ ap (residue p) (r.of_other (omega (arith, h.hit))) ∙ residue_one p;
+}
 
 -- column j is that of E
 pub record Cleared (p n j : ℕ) (m s u v : List (List ℕ)) : Type 0 where

@@ -1,15 +1,16 @@
 // The inverse of a field matrix, by elimination with row operations, and the test that tells where there is none.
 #![tactic(auto)]
 
-ghost use Rattle.std.specs.Prelude.{◌≡◌, ◌≤◌, ◌<◌, T};
-ghost use Rattle.forms.specs.Numbers.{prime, order_limit};
+ghost use Rattle.std.specs.Prelude.{◌≡◌, ◌<◌, T};
+ghost use Rattle.forms.specs.Numbers.{prime};
 ghost use Rattle.matrices.specs.Rows.{plus_row};
 ghost use Rattle.inversion.specs.RowAddition.{RowAdded};
-ghost use Rattle.inversion.specs.Inversion.{PlaceReady, PlacedIn, Pivoted, PivotReady, Cleared, Inverted};
+ghost use Rattle.inversion.specs.Inversion.{PlaceReady, PlacedIn, Pivot, Pivoted, Cleared, Inverted};
 ghost use Rattle.inversion.specs.Zeros.{zero_entries, is_zero};
 
 use forms::ORDER;
-use matrices::{Mat, Row, identity, unit_row};
+use matrices::{Mat, Order, Row, identity, unit_row};
+use residues::modulus::Modulus;
 use residues::residue::{plus_multiple, reciprocal_of};
 
 // M and S, with S A = M.
@@ -20,91 +21,89 @@ struct Pair {
 }
 
 // Row x plus k times row y.
-pub fn plus_row(x: Row, k: u8, y: Row, n: usize, p: u8) -> Row
-    requires { (n ≤ order_limit) × (0 < p) }
-    ensures { result ≡ plus_row p n x k y }
+pub fn plus_row(x: Row, k: u8, y: Row, order: Order, m: Modulus) -> Row
+    ensures { result ≡ plus_row m.p order.n x k y }
 {
     let mut r = [0u8; ORDER];
-    for j in 0..n {
-        r[j] = plus_multiple(x[j], k, y[j], p);
+    for j in 0..order.n {
+        r[j] = plus_multiple(x[j], k, y[j], m);
     }
     r
 }
 
-// m with k times row `from` added to row i.
-fn add_row(m: Mat, i: usize, k: u8, from: usize, n: usize, p: u8) -> Mat
-    requires { (n ≤ order_limit) × (i < n) × (from < n) × (0 < p) }
-    ensures { RowAdded p n i k from m result }
+// a with k times row `from` added to row i.
+fn add_row(a: Mat, i: usize, k: u8, from: usize, order: Order, m: Modulus) -> Mat
+    requires { (i < order.n) × (from < order.n) }
+    ensures { RowAdded m.p order.n i k from a result }
 {
-    let mut r = m;
-    r[i] = plus_row(m[i], k, m[from], n, p);
+    let mut r = a;
+    r[i] = plus_row(a[i], k, a[from], order, m);
     r
 }
 
 // The entry (i, j) of M becomes that of E, by a multiple of row `from`, where d is the reciprocal of the entry (from, j).
-fn place(pair: Pair, i: usize, j: usize, from: usize, d: u8, n: usize, p: u8) -> Pair
-    requires { PlaceReady p n i j from d pair.m }
-    ensures { PlacedIn p n i j pair.m pair.s result.m result.s }
+fn place(pair: Pair, i: usize, j: usize, from: usize, d: u8, order: Order, m: Modulus) -> Pair
+    requires { PlaceReady m.p order.n i j from d pair.m }
+    ensures { PlacedIn m.p order.n i j pair.m pair.s result.m result.s }
 {
     let e = unit_row(j);
-    let x = pair.m[i][j] % p;
-    let y = plus_multiple(p - x, 1, e[i], p);
-    let k = plus_multiple(0, y, d, p);
-    let m = add_row(pair.m, i, k, from, n, p);
-    let s = add_row(pair.s, i, k, from, n, p);
-    Pair { m, s }
+    let x = pair.m[i][j] % m.p;
+    let y = plus_multiple(m.p - x, 1, e[i], m);
+    let k = plus_multiple(0, y, d, m);
+    Pair {
+        m: add_row(pair.m, i, k, from, order, m),
+        s: add_row(pair.s, i, k, from, order, m),
+    }
 }
 
 // The first row from j on with a non-zero entry in column j.
-fn pivot(m: Mat, j: usize, n: usize, p: u8) -> Option<usize>
-    requires { (n ≤ order_limit) × (j < n) × (0 < p) }
-    ensures { Pivoted p n j m result }
+fn pivot(a: Mat, j: usize, order: Order, m: Modulus) -> Option<usize>
+    requires { j < order.n }
+    ensures { Pivoted m.p order.n j a result }
 {
-    (j..n).find(|i| m[*i][j] % p != 0)
+    (j..order.n).find(|i| a[*i][j] % m.p != 0)
 }
 
 // Column j becomes that of E, from the pivot in row q.
-fn clear(pair: Pair, j: usize, q: usize, n: usize, p: u8) -> Pair
-    requires { PivotReady p n j q pair.m }
-    ensures { Cleared p n j pair.m pair.s result.m result.s }
+fn clear(pair: Pair, j: usize, q: usize, order: Order, m: Modulus) -> Pair
+    requires { T (prime m.p) × Pivot m.p order.n j pair.m q }
+    ensures { Cleared m.p order.n j pair.m pair.s result.m result.s }
 {
-    let d = reciprocal_of(pair.m[q][j] % p, p);
-    let mut cleared = place(pair, j, j, q, d, n, p);
-    for i in 0..n {
-        cleared = place(cleared, i, j, j, 1, n, p);
+    let d = reciprocal_of(pair.m[q][j] % m.p, m.p);
+    let mut cleared = place(pair, j, j, q, d, order, m);
+    for i in 0..order.n {
+        cleared = place(cleared, i, j, j, 1, order, m);
     }
     cleared
 }
 
 // The inverse of a, if it has one.
-pub fn inverse(a: Mat, n: usize, p: u8) -> Option<Mat>
-    requires { T (prime p) × (n ≤ order_limit) }
-    ensures { Inverted p n a result }
+pub fn inverse(a: Mat, order: Order, m: Modulus) -> Option<Mat>
+    requires { T (prime m.p) }
+    ensures { Inverted m.p order.n a result }
 {
     let mut pair = Pair {
         m: a,
-        s: identity(n),
+        s: identity(order),
     };
-    for j in 0..n {
-        let Some(q) = pivot(pair.m, j, n, p) else {
+    for j in 0..order.n {
+        let Some(q) = pivot(pair.m, j, order, m) else {
             return None;
         };
-        pair = clear(pair, j, q, n, p);
+        pair = clear(pair, j, q, order, m);
     }
     Some(pair.s)
 }
 
-fn is_zero_row(v: Row, n: usize) -> bool
-    requires { n ≤ order_limit }
-    ensures { result ≡ zero_entries n v }
+fn is_zero_row(v: Row, order: Order) -> bool
+    ensures { result ≡ zero_entries order.n v }
 {
-    v[..n].iter().all(|x| *x == 0)
+    v[..order.n].iter().all(|x| *x == 0)
 }
 
 // Whether m is zero, which no inverse is.
-pub fn is_zero(m: Mat, n: usize) -> bool
-    requires { n ≤ order_limit }
-    ensures { result ≡ is_zero n m }
+pub fn is_zero(m: Mat, order: Order) -> bool
+    ensures { result ≡ is_zero order.n m }
 {
-    m[..n].iter().all(|v| is_zero_row(*v, n))
+    m[..order.n].iter().all(|v| is_zero_row(*v, order))
 }

@@ -1,5 +1,5 @@
 // A field matrix by value, from its bytes row by row.
-ghost use Rattle.std.specs.Prelude.{◌≡◌, ◌+◌, ◌*◌, ◌≤◌, ◌<◌, length};
+ghost use Rattle.std.specs.Prelude.{◌≡◌, ◌+◌, ◌*◌, ◌<◌, length};
 ghost use Rattle.forms.specs.Numbers.{at};
 ghost use Rattle.matrices.specs.Filling.{filled};
 ghost use Rattle.matrices.specs.Loading.{loaded};

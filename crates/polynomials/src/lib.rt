@@ -12,6 +12,7 @@ ghost use Rattle.polynomials.specs.Subtraction.{Lessened};
 ghost use Rattle.polynomials.specs.LongDivision.{Divided};
 
 use forms::ORDER;
+use residues::modulus::Modulus;
 use residues::residue::{plus_multiple, reciprocal_of};
 
 // A polynomial of degree ORDER has one coefficient more.
@@ -52,31 +53,37 @@ pub fn from_coefficients(s: &[u8], from: usize, count: usize) -> Polynomial
 }
 
 // r - c X^k f
-fn less_multiple(r: [u8; COEFFICIENTS], f: Polynomial, k: usize, c: u8, p: u8) -> [u8; COEFFICIENTS]
-    requires { (0 < p) × (c ≤ p) × (k + f.len ≤ coefficient_limit) }
-    ensures { Lessened p r f.coefficients k c f.len result }
+fn less_multiple(
+    r: [u8; COEFFICIENTS],
+    f: Polynomial,
+    k: usize,
+    c: u8,
+    m: Modulus,
+) -> [u8; COEFFICIENTS]
+    requires { (c ≤ m.p) × (k + f.len ≤ coefficient_limit) }
+    ensures { Lessened m.p r f.coefficients k c f.len result }
 {
     let mut d = r;
     for i in 0..f.len {
-        d[k + i] = plus_multiple(r[k + i], p - c, f.coefficients[i], p);
+        d[k + i] = plus_multiple(r[k + i], m.p - c, f.coefficients[i], m);
     }
     d
 }
 
 // Long division of g by f: the leading coefficient of what is left gives the next coefficient of the quotient.
-pub fn divide(g: Polynomial, f: Polynomial, p: u8) -> Division
-    requires { T (prime p) × Canonical p g × Canonical p f × (0 < f.len) }
-    ensures { Divided p g f result }
+pub fn divide(g: Polynomial, f: Polynomial, m: Modulus) -> Division
+    requires { T (prime m.p) × Canonical m.p g × Canonical m.p f × (0 < f.len) }
+    ensures { Divided m.p g f result }
 {
     let lead = f.len - 1;
-    let reciprocal = reciprocal_of(f.coefficients[lead], p);
+    let reciprocal = reciprocal_of(f.coefficients[lead], m.p);
     let mut quotient = [0u8; COEFFICIENTS];
     let mut remainder = g.coefficients;
     for last in (lead..g.len).rev() {
         let k = last - lead;
-        let c = plus_multiple(0, remainder[last], reciprocal, p);
+        let c = plus_multiple(0, remainder[last], reciprocal, m);
         quotient[k] = c;
-        remainder = less_multiple(remainder, f, k, c, p);
+        remainder = less_multiple(remainder, f, k, c, m);
     }
     Division {
         quotient: trimmed(quotient),
@@ -85,9 +92,9 @@ pub fn divide(g: Polynomial, f: Polynomial, p: u8) -> Division
 }
 
 // Whether f divides g: the division leaves nothing.
-pub fn divides(f: Polynomial, g: Polynomial, p: u8) -> bool
-    requires { T (prime p) × Canonical p f × Canonical p g × (0 < f.len) }
-    ensures { T result ↔ Divides (polynomials (modulo p)) (polynomial p f) (polynomial p g) }
+pub fn divides(f: Polynomial, g: Polynomial, m: Modulus) -> bool
+    requires { T (prime m.p) × Canonical m.p f × Canonical m.p g × (0 < f.len) }
+    ensures { T result ↔ Divides (polynomials (modulo m.p)) (polynomial m.p f) (polynomial m.p g) }
 {
-    divide(g, f, p).remainder.len == 0
+    divide(g, f, m).remainder.len == 0
 }

@@ -1,25 +1,19 @@
 -- The entries passed, and the one in row j, are those of E; what the elimination has kept stays.
 use Rattle.std.proofs.Common.{mod-lt, arith, rules}
-use Rattle.forms.specs.Primes.{prime_positive}
 use Rattle.inversion.specs.Inversion.{pivot_ready, clearing_start, clearing_ready, clearing_turn, clearing_end}
 use Rattle.inversion.proofs.clear.Goals as goal
 
-pub nonzero_rem-pair : goal.nonzero_rem-pair
-nonzero_rem-pair c = prime_positive _ c.requires.prime
-
 pub reciprocal_of-d-requires : goal.reciprocal_of-d-requires
-reciprocal_of-d-requires c = (c.requires.prime, mod-lt _ (prime_positive _ c.requires.prime))
+reciprocal_of-d-requires c = (c.requires.0, mod-lt _ c.args.m.positive)
 
 pub place-cleared-requires : goal.place-cleared-requires
-place-cleared-requires c = pivot_ready _ _ _ _ _ _ c.requires c.reciprocal_of-d.ensures
+place-cleared-requires c = pivot_ready _ _ _ _ _ _ c.args.m.positive c.requires.1 c.reciprocal_of-d.ensures
 
 pub loop-i-init : goal.loop-i-init
 loop-i-init c = clearing_start _ _ _ _ _ _ _ c.place-cleared.ensures
 
 pub place-cleared-requires-in-loop-i : goal.place-cleared-requires-in-loop-i
-place-cleared-requires-in-loop-i c =
-    let pre = c.requires in
-    clearing_ready _ _ _ _ _ _ _ _ pre.upto (prime_positive _ pre.prime) (omega (arith, pre.pivot.low, pre.pivot.high)) (search rules) c.loop-i.invariant
+place-cleared-requires-in-loop-i c = clearing_ready _ _ _ _ _ _ _ _ (omega (arith, c.requires.1.low, c.requires.1.high)) (search rules) c.loop-i.invariant
 
 pub loop-i-preserved : goal.loop-i-preserved
 loop-i-preserved c = clearing_turn _ _ _ _ _ _ _ _ _ _ c.loop-i.invariant c.place-cleared-in-loop-i.ensures

@@ -9,5 +9,5 @@ use Rattle.inversion.proofs.is_zero.Goals as goal
 pub returns : goal.returns
 unfolding is_zero
 returns c =
-    all_from_yields_List (zero_entries c.args.n) _ _ _ c.all.ensures.ran (YieldsList-from_slice (take c.args.n c.args.m) cc) (λ x b q k. search (rules, tests))
-    ∙ every_taken (zero_entries c.args.n) [] c.args.m c.args.n (search rules)
+    all_from_yields_List (zero_entries c.args.order.n) _ _ _ c.all.ensures.ran (YieldsList-from_slice (take c.args.order.n c.args.m) cc) (λ x b q k. search (rules, tests))
+    ∙ every_taken (zero_entries c.args.order.n) [] c.args.m c.args.order.n (search rules)

@@ -7,5 +7,5 @@ use Rattle.inversion.proofs.is_zero_row.Goals as goal
 
 pub returns : goal.returns
 returns c =
-    all_from_yields_List (λ x. eqb x 0) _ _ _ c.all.ensures.ran (YieldsList-from_slice (take c.args.n c.args.v) cc) (λ x b q k. search (rules, tests))
-    ∙ every_taken (λ x. eqb x 0) 0 c.args.v c.args.n (search rules)
+    all_from_yields_List (λ x. eqb x 0) _ _ _ c.all.ensures.ran (YieldsList-from_slice (take c.args.order.n c.args.v) cc) (λ x b q k. search (rules, tests))
+    ∙ every_taken (λ x. eqb x 0) 0 c.args.v c.args.order.n (search rules)

@@ -8,4 +8,4 @@ use Rattle.inversion.proofs.pivot.Goals as goal
 pub returns : goal.returns
 returns c =
     let a = c.args in
-    pivoted _ _ _ _ _ (first_from_Range _ _ _ _ (λ i. cell a.m i a.j % a.p ≢ 0) (λ i. cell a.m i a.j % a.p ≡ 0) c.find.ensures.ran (λ x q k. search (rules, tests)) (λ x q k. search (rules, tests)))
+    pivoted _ _ _ _ _ (first_from_Range _ _ _ _ (λ i. cell a.a i a.j % a.m.p ≢ 0) (λ i. cell a.a i a.j % a.m.p ≡ 0) c.find.ensures.ran (λ x q k. search (rules, tests)) (λ x q k. search (rules, tests)))

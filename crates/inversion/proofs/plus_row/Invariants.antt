@@ -5,4 +5,4 @@ use Rattle.matrices.specs.Matrices.{zero_row}
 use Rattle.inversion.proofs.plus_row.Given as goal
 
 abbrev pub invariant-loop-j : goal.invariant-loop-j
-invariant-loop-j l = l.r ≡ filled l.j (λ j. (get_or l.x j 0 + l.k * get_or l.y j 0) % l.p) zero_row
+invariant-loop-j l = l.r ≡ filled l.j (λ j. (get_or l.x j 0 + l.k * get_or l.y j 0) % l.m.p) zero_row

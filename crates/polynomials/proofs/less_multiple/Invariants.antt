@@ -3,4 +3,4 @@ use Rattle.polynomials.specs.Subtraction.{Lessened}
 use Rattle.polynomials.proofs.less_multiple.Given as goal
 
 abbrev pub invariant-loop-i : goal.invariant-loop-i
-invariant-loop-i l = Lessened l.p l.r l.f.coefficients l.k l.c l.i l.d
+invariant-loop-i l = Lessened l.m.p l.r l.f.coefficients l.k l.c l.i l.d
