@@ -6,7 +6,6 @@ use Rattle.forms.specs.Listed.{row_place}
 
 -- (i, j) is an entry of a matrix of order n
 pub record Inside (n i j : ℕ) : Type 0 where
-  pub order : n ≤ order_limit
   pub row : i < n
   pub column : j < n
 

@@ -20,14 +20,12 @@ pub record RoomFor (n b : ℕ) (line : List (List ℕ)) : Type 0 where
 pub record ScalingLine (x shift l n : ℕ) (s : List ℕ) (line : List (List ℕ)) : Type 0 where
   pub byte : x ≤ 255
   pub inside : shift < n
-  pub order : n ≤ order_limit
   pub row : l < n
   pub right_long : length s ≡ n * n * n
   pub has_room : RoomFor n product_limit line
 
 -- f times row l of a matrix is added to a row
 pub record MultiplyingLine (l n : ℕ) (f t : List ℕ) (line : List (List ℕ)) : Type 0 where
-  pub order : n ≤ order_limit
   pub row : l < n
   pub left_long : length f ≡ n
   pub right_long : length t ≡ n * n * n

@@ -40,7 +40,6 @@ unit_test p n s t i j = same_modulo p (suc (2 * n)) (polynomial_product n (polyn
 
 -- two matrices of n by n entries of n coefficients
 pub record Inverses (n : ℕ) (s t : List ℕ) : Type 0 where
-  pub order : n ≤ order_limit
   pub left_long : length s ≡ n * n * n
   pub right_long : length t ≡ n * n * n
 

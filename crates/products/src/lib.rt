@@ -2,8 +2,8 @@
 // factor that are zero are skipped.
 #![tactic(auto)]
 
-ghost use Rattle.std.specs.Prelude.{◌≡◌, suc, ◌*◌, ◌%◌, ◌≤◌, ◌<◌, eqb, length};
-ghost use Rattle.forms.specs.Numbers.{at, order_limit};
+ghost use Rattle.std.specs.Prelude.{◌≡◌, suc, ◌*◌, ◌%◌, ◌<◌, eqb, length};
+ghost use Rattle.forms.specs.Numbers.{at};
 ghost use Rattle.forms.specs.Polynomials.{convolution};
 ghost use Rattle.forms.specs.Matrices.{polynomial_matrix, polynomial_product, polynomial_unit};
 ghost use Rattle.forms.specs.Rules.{polynomial_equal};
@@ -14,6 +14,8 @@ ghost use Rattle.products.specs.Searches.{failing};
 ghost use Rattle.products.specs.Sums.{shifted, Scaling, Multiplying, Plus};
 
 use forms::ORDER;
+use matrices::Order;
+use residues::modulus::Modulus;
 
 // No product of the rules has more coefficients.
 pub const TERMS: usize = 2 * ORDER + 1;
@@ -47,62 +49,60 @@ pub fn add_product(sums: &mut Sums, f: &[u8], g: &[u8])
 }
 
 // The n coefficients of the entry (i, j), in a matrix of n by n entries of n coefficients.
-pub fn entry(bytes: &[u8], i: usize, j: usize, n: usize) -> &[u8]
-    requires { Inside n i j × (length bytes.now ≡ n * n * n) }
-    ensures { (length result.now ≡ n) × (at result.now ≡ polynomial_matrix n bytes.now i j) }
+pub fn entry(bytes: &[u8], i: usize, j: usize, order: Order) -> &[u8]
+    requires { Inside order.n i j × (length bytes.now ≡ order.n * order.n * order.n) }
+    ensures { (length result.now ≡ order.n) × (at result.now ≡ polynomial_matrix order.n bytes.now i j) }
 {
-    let start = (i * n + j) * n;
-    &bytes[start..start + n]
+    let start = (i * order.n + j) * order.n;
+    &bytes[start..start + order.n]
 }
 
 // Adds x X^shift times row l of `right` to the row.
-fn add_scaled_line(line: &mut Line, x: u32, shift: usize, right: &[u8], l: usize, n: usize)
-    requires { ScalingLine x shift l n right.now line.old }
-    ensures { PlusLine n line.new line.old (λ j k. x * shifted shift (polynomial_matrix n right.now l j) k) }
+fn add_scaled_line(line: &mut Line, x: u32, shift: usize, right: &[u8], l: usize, order: Order)
+    requires { ScalingLine x shift l order.n right.now line.old }
+    ensures { PlusLine order.n line.new line.old (λ j k. x * shifted shift (polynomial_matrix order.n right.now l j) k) }
 {
-    for j in 0..n {
-        add_scaled(&mut line[j], x, shift, entry(right, l, j, n));
+    for j in 0..order.n {
+        add_scaled(&mut line[j], x, shift, entry(right, l, j, order));
     }
 }
 
 // Adds f times row l of `right` to the row.
-fn add_product_line(line: &mut Line, f: &[u8], right: &[u8], l: usize, n: usize)
-    requires { MultiplyingLine l n f.now right.now line.old }
-    ensures { PlusLine n line.new line.old (λ j. convolution (at f.now) (polynomial_matrix n right.now l j)) }
+fn add_product_line(line: &mut Line, f: &[u8], right: &[u8], l: usize, order: Order)
+    requires { MultiplyingLine l order.n f.now right.now line.old }
+    ensures { PlusLine order.n line.new line.old (λ j. convolution (at f.now) (polynomial_matrix order.n right.now l j)) }
 {
     for (k, x) in f.iter().enumerate() {
         if *x != 0 {
-            add_scaled_line(line, u32::from(*x), k, right, l, n);
+            add_scaled_line(line, u32::from(*x), k, right, l, order);
         }
     }
 }
 
 // Row i of a product of matrices of n by n entries of n coefficients.
-fn product_line(left: &[u8], right: &[u8], i: usize, n: usize) -> Line
-    requires { Inverses n left.now right.now × (i < n) }
-    ensures { HoldingLine n result (polynomial_product n (polynomial_matrix n left.now) (polynomial_matrix n right.now) i) }
+fn product_line(left: &[u8], right: &[u8], i: usize, order: Order) -> Line
+    requires { Inverses order.n left.now right.now × (i < order.n) }
+    ensures { HoldingLine order.n result (polynomial_product order.n (polynomial_matrix order.n left.now) (polynomial_matrix order.n right.now) i) }
 {
     let mut line = [[0u32; TERMS]; ORDER];
-    for l in 0..n {
-        add_product_line(&mut line, entry(left, i, l, n), right, l, n);
+    for l in 0..order.n {
+        add_product_line(&mut line, entry(left, i, l, order), right, l, order);
     }
     line
 }
 
 // x and y are equal modulo p. Most are equal as they stand.
-fn is_congruent(x: u32, y: u32, p: u32) -> bool
-    requires { 0 < p }
-    ensures { result ≡ eqb (x % p) (y % p) }
+fn is_congruent(x: u32, y: u32, m: Modulus) -> bool
+    ensures { result ≡ eqb (x % m.p) (y % m.p) }
 {
-    x == y || x % p == y % p
+    x == y || x % u32::from(m.p) == y % u32::from(m.p)
 }
 
 // The first 2n + 1 coefficients are equal modulo p.
-pub fn is_equal(f: &Sums, g: &Sums, n: usize, p: u32) -> bool
-    requires { (n ≤ order_limit) × (0 < p) }
-    ensures { result ≡ same_modulo p (suc (2 * n)) (at f.now) (at g.now) }
+pub fn is_equal(f: &Sums, g: &Sums, order: Order, m: Modulus) -> bool
+    ensures { result ≡ same_modulo m.p (suc (2 * order.n)) (at f.now) (at g.now) }
 {
-    (0..2 * n + 1).all(|k| is_congruent(f[k], g[k], p))
+    (0..2 * order.n + 1).all(|k| is_congruent(f[k], g[k], m))
 }
 
 // Coefficient k of the entry (i, j) of E.
@@ -113,23 +113,22 @@ fn unit_coefficient(i: usize, j: usize, k: usize) -> u32
 }
 
 // The first 2n + 1 coefficients are those of the entry (i, j) of E modulo p.
-fn is_unit_entry(sums: &Sums, i: usize, j: usize, n: usize, p: u32) -> bool
-    requires { (n ≤ order_limit) × (0 < p) }
-    ensures { result ≡ same_modulo p (suc (2 * n)) (at sums.now) (polynomial_unit i j) }
+fn is_unit_entry(sums: &Sums, i: usize, j: usize, order: Order, m: Modulus) -> bool
+    ensures { result ≡ same_modulo m.p (suc (2 * order.n)) (at sums.now) (polynomial_unit i j) }
 {
-    (0..2 * n + 1).all(|k| is_congruent(sums[k], unit_coefficient(i, j, k), p))
+    (0..2 * order.n + 1).all(|k| is_congruent(sums[k], unit_coefficient(i, j, k), m))
 }
 
 // The given rule, 4 or 5: left times right is E. The first wrong entry ends the search with the rule.
-pub fn inverse_rule(left: &[u8], right: &[u8], n: usize, p: u32, rule: u8) -> Result<(), u8>
-    requires { Inverses n left.now right.now × (0 < p) }
-    ensures { result ≡ failing (polynomial_equal p n (polynomial_product n (polynomial_matrix n left.now) (polynomial_matrix n right.now)) polynomial_unit) rule }
+pub fn inverse_rule(left: &[u8], right: &[u8], order: Order, m: Modulus, rule: u8) -> Result<(), u8>
+    requires { Inverses order.n left.now right.now }
+    ensures { result ≡ failing (polynomial_equal m.p order.n (polynomial_product order.n (polynomial_matrix order.n left.now) (polynomial_matrix order.n right.now)) polynomial_unit) rule }
 {
     let failed = 'rows: {
-        for i in 0..n {
-            let line = product_line(left, right, i, n);
-            for j in 0..n {
-                if !is_unit_entry(&line[j], i, j, n, p) {
+        for i in 0..order.n {
+            let line = product_line(left, right, i, order);
+            for j in 0..order.n {
+                if !is_unit_entry(&line[j], i, j, order, m) {
                     break 'rows Err(rule);
                 }
             }

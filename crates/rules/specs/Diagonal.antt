@@ -1,7 +1,8 @@
 -- The diagonal's polynomials among their bytes, their degrees as the last coefficients that are not zero, and the sum of these.
-use Rattle.std.specs.Prelude.{◌≡◌, refl, ◌≢◌, List, ℕ, zero, suc, ◌+◌, ◌*◌, ◌^◌, ◌≤◌, ◌<◌, T, eqb, length, take, drop, sum, Option, Some, None, MatchOption, unwrap_or}
-use Rattle.std.proofs.Common.{sym, ◌∙◌, ap, arith, eqb→eq, length-take, length-drop, get_or-take, get_or-drop}
-use Rattle.std.proofs.Math.Decide.{dec_le, ℕ_discrete}
+use Rattle.std.specs.Prelude.{◌≡◌, refl, ◌≢◌, List, ℕ, zero, suc, ◌+◌, ◌*◌, ◌^◌, ◌-◌, ◌≤◌, ◌<◌, T, eqb, length, take, drop, sum, Option, Some, None, MatchOption, unwrap_or}
+use Rattle.std.proofs.Common.{sym, ◌∙◌, ap, ap₂, arith, eqb→eq, length-take, length-drop, get_or-take, get_or-drop}
+use Rattle.std.proofs.Math.Path.{fun_ext}
+use Rattle.std.proofs.Math.Decide.{dec_lt, dec_le, ℕ_discrete}
 use Rattle.std.proofs.Math.ListN.{get_or-eq_default}
 use Rattle.std.proofs.Math.Seq.{take-suc}
 use Rattle.std.proofs.lemmas.List.Sums.{sum_by_push}
@@ -11,14 +12,8 @@ use Rattle.forms.specs.Matrices.{diagonal}
 use Rattle.forms.specs.Tests.{cond_holds, cond_fails, equal_holds}
 use Rattle.forms.specs.Bounds.{diagonal_at, diagonal_short}
 
--- the payload of D
-pub record DiagonalPayload (n : ℕ) (d : List ℕ) : Type 0 where
-  pub order : n ≤ order_limit
-  pub long : length d ≡ n * suc n
-
--- and it is residues modulo a prime, with monic polynomials
+-- the payload of D is residues modulo a prime, with monic polynomials
 pub record MonicPayload (p n : ℕ) (d : List ℕ) : Type 0 where
-  pub payload : DiagonalPayload n d
   pub prime_p : T (prime p)
   pub small : (k : ℕ) → at d k < p
   pub one : (i : ℕ) → i < n → diagonal n d i (degree n (diagonal n d i)) ≡ 1
@@ -50,9 +45,18 @@ degree_zeros (suc n) f h = cond_holds (eqb (f (suc n)) 0) _ _ (equal_holds (f (s
 abbrev pub LastNonzero : List ℕ → Option ℕ → Type 0
 LastNonzero s r = MatchOption r ((k : ℕ) → k < length s → at s k ≡ 0) (λ i. (i < length s) × (at s i ≢ 0) × ((k : ℕ) → i < k → k < length s → at s k ≡ 0))
 
-pub degree_last : (n : ℕ) (d : List ℕ) (i : ℕ) {s : List ℕ} (r : Option ℕ) → CoefficientsOf n d i s → LastNonzero s r → unwrap_or r 0 ≡ degree n (diagonal n d i)
-degree_last n d i None of h = sym (degree_zeros n _ (λ k l. sym (of.coefficient k) ∙ h k (omega (arith, of.long))))
-degree_last n d i (Some m) of h = sym (degree_at n _ m (omega (arith, of.long, h.0)) (λ z. h.1 (of.coefficient m ∙ z)) (λ k a b. sym (of.coefficient k) ∙ h.2 k a (omega (arith, of.long))))
+pub degree_last : (s : List ℕ) (r : Option ℕ) → LastNonzero s r → unwrap_or r 0 ≡ degree (length s - 1) (at s)
+degree_last s None h = sym (degree_zeros (length s - 1) (at s) (λ k l. elim (dec_lt k (length s)) [ yes g ↦ h k g | no g ↦ get_or-eq_default s 0 {n = k} (omega arith) ]))
+degree_last s (Some m) h = sym (degree_at (length s - 1) (at s) m (omega (arith, h.0)) h.1 (λ k a b. h.2 k a (omega (arith, h.0))))
+
+pub coefficients_are : {n : ℕ} {d : List ℕ} {i : ℕ} {s : List ℕ} → CoefficientsOf n d i s → at s ≡ diagonal n d i
+coefficients_are of = fun_ext of.coefficient
+
+pub degree_is : {n : ℕ} {d : List ℕ} {i : ℕ} {s : List ℕ} → CoefficientsOf n d i s → degree (length s - 1) (at s) ≡ degree n (diagonal n d i)
+degree_is {n} {s = s} of = ap₂ degree last (coefficients_are of)
+  where
+    last : length s - 1 ≡ n
+    last = omega (arith, of.long)
 
 -- the n + 1 bytes from where f_i starts
 pub coefficients_from : (n : ℕ) (d : List ℕ) (i start count : ℕ) → start ≡ i * suc n → count ≡ suc n → start + suc n ≤ length d → CoefficientsOf n d i (take count (drop start d))

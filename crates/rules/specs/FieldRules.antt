@@ -1,9 +1,9 @@
 -- Rules 8 and 9 in code: matrices taken from payloads, multiplied, and compared entry by entry.
-use Rattle.std.specs.Prelude.{◌≡◌, Bool, List, ℕ, ◌*◌, ◌%◌, ◌≤◌, ◌<◌, eqb, length}
+use Rattle.std.specs.Prelude.{◌≡◌, Bool, List, ℕ, ◌*◌, ◌%◌, ◌<◌, eqb, length}
 use Rattle.std.proofs.Common.{sym, ◌∙◌, ap, ap₂, mod-eq_of_lt}
 use Rattle.algebra.specs.Matrix.{Matrix, product}
 use Rattle.algebra.specs.Modular.{modulo, equal_residue}
-use Rattle.forms.specs.Numbers.{every, order_limit}
+use Rattle.forms.specs.Numbers.{every}
 use Rattle.forms.specs.Matrices as definitions
 use Rattle.forms.specs.Matrices.{Entries, unit, field_product}
 use Rattle.forms.specs.Rules.{field_equal}
@@ -13,11 +13,6 @@ use Rattle.matrices.specs.Matrices.{cell, matrix, matrix_inside, FieldMatrix}
 use Rattle.matrices.specs.Products.{Multiplied}
 use Rattle.matrices.specs.Rows.{IsIdentity}
 use Rattle.products.specs.Searches.{every_equal}
-
--- the payload of a field matrix
-pub record FieldPayload (n : ℕ) (s : List ℕ) : Type 0 where
-  pub order : n ≤ order_limit
-  pub long : length s ≡ n * n
 
 -- all entries are the same
 abbrev pub same_cells : ℕ → List (List ℕ) → List (List ℕ) → Bool
@@ -42,11 +37,10 @@ module _ (p n : ℕ) (positive : 0 < p) where
 -- the payloads of T and its inverse, and of A, T and F
 pub record BasePayloads (p n : ℕ) (s t : List ℕ) : Type 0 where
   pub large : 1 < p
-  pub base : FieldPayload n s
-  pub back : FieldPayload n t
+  pub base_long : length s ≡ n * n
+  pub back_long : length t ≡ n * n
 
-pub record SimilarPayloads (p n : ℕ) (a s f : List ℕ) : Type 0 where
-  pub positive : 0 < p
-  pub matrix : FieldPayload n a
-  pub base : FieldPayload n s
-  pub form : FieldPayload n f
+pub record SimilarPayloads (n : ℕ) (a s f : List ℕ) : Type 0 where
+  pub matrix_long : length a ≡ n * n
+  pub base_long : length s ≡ n * n
+  pub form_long : length f ≡ n * n

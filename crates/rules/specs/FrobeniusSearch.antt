@@ -9,11 +9,9 @@ use Rattle.forms.specs.Frobenius.{companion, blocks, frobenius}
 use Rattle.forms.specs.Tests.{cond_holds, cond_fails, equal_holds}
 use Rattle.forms.proofs.Bounds.{frobenius_small}
 use Rattle.forms.proofs.FrobeniusEntries.{blocks_first, blocks_behind, blocks_above, blocks_below}
-use Rattle.rules.specs.Diagonal.{DiagonalPayload}
 
 -- the entry (i, j) of the block of f_b, of degree m
 pub record CompanionPlace (p n b m i : ℕ) (d : List ℕ) : Type 0 where
-  pub payload : DiagonalPayload n d
   pub small : (k : ℕ) → at d k < p
   pub block : b < n
   pub degree : m ≤ n
@@ -74,7 +72,6 @@ behind_all p n f i j b row column h l = sym (h ∙ ap (λ (r : ℕ). blocks p n 
 
 -- the payloads of D and F
 pub record FrobeniusPayloads (p n : ℕ) (d f : List ℕ) : Type 0 where
-  pub payload : DiagonalPayload n d
   pub small : (k : ℕ) → at d k < p
   pub long : length f ≡ n * n
   pub field_small : (k : ℕ) → at f k < p

@@ -13,10 +13,8 @@ use Rattle.products.specs.Lines.{RoomFor, PlusLine, line_one, line_room, line_pr
 
 -- the payload of A
 pub record FieldPayload (p n : ℕ) (a : List ℕ) : Type 0 where
-  pub order : n ≤ order_limit
   pub matrix_long : length a ≡ n * n
   pub small : (k : ℕ) → at a k < p
-  pub limited : p ≤ 255
 
 -- x X^k times row l of -A is added to a row
 pub record AddingField (p n x k l : ℕ) (a : List ℕ) (line : List (List ℕ)) : Type 0 where
@@ -57,8 +55,8 @@ characteristic_bytes p A limited i j k = at_tests (eqb k 0) (eqb k 1)
     at_tests false false = omega arith
 
 -- there is room for the next coefficient of f
-pub moved_room : (p n l : ℕ) (f a : List ℕ) (before line : List (List ℕ)) (k : ℕ) → AddingMoved p n l f a before → ((i : ℕ) → at f i ≤ 255) → k < n → PlusLine n line before (λ j. products k (at f) (characteristic p (matrix n a) l j)) → RoomFor n product_limit line
-moved_room p n l f a before line k h bytes m q = line_products_room n _ _ k before line q bytes (characteristic_bytes p (matrix n a) h.payload.limited l) m h.has_room
+pub moved_room : (p n l : ℕ) (f a : List ℕ) (before line : List (List ℕ)) (k : ℕ) → AddingMoved p n l f a before → p ≤ 255 → ((i : ℕ) → at f i ≤ 255) → k < n → PlusLine n line before (λ j. products k (at f) (characteristic p (matrix n a) l j)) → RoomFor n product_limit line
+moved_room p n l f a before line k h limited bytes m q = line_products_room n _ _ k before line q bytes (characteristic_bytes p (matrix n a) limited l) m h.has_room
 
 -- x X^k times row l of XE-A: of its columns, l has x at k + 1, and each has x times that of -A at k
 abbrev pub diagonal_term : ℕ → ℕ → ℕ → ℕ → Coefficients

@@ -1,15 +1,14 @@
 -- The entries of D QI, each one product of polynomials, and the test of rule 6 in code, which compares those of P(XE-A) with them.
-use Rattle.std.specs.Prelude.{◌≡◌, refl, ◌≢◌, Bool, List, ℕ, zero, suc, ◌+◌, ◌*◌, ◌-◌, ◌≤◌, ◌<◌, eqb, length, replicate, take, drop}
+use Rattle.std.specs.Prelude.{◌≡◌, refl, ◌≢◌, Bool, List, ℕ, zero, suc, ◌+◌, ◌*◌, ◌-◌, ◌<◌, eqb, length, replicate}
 use Rattle.std.proofs.Common.{sym, ◌∙◌, ap, ap₂, add-zero, zero-add, zero-mul, arith, eqb→eq}
 use Rattle.std.proofs.Math.Path.{fun_ext}
 use Rattle.std.proofs.Math.Decide.{ℕ_discrete}
-use Rattle.forms.specs.Numbers.{at, total, order_limit}
+use Rattle.forms.specs.Numbers.{at, total}
 use Rattle.forms.specs.Polynomials.{Coefficients, convolution}
 use Rattle.forms.specs.Matrices.{PolynomialEntries, matrix, polynomial_matrix, diagonal, diagonal_matrix, characteristic, polynomial_product}
 use Rattle.forms.specs.Tests.{cond_holds, cond_fails, equal_holds, total_suc, total_equal, total_of_zeros}
-use Rattle.products.specs.Indices.{Inside, diagonal_inside}
 use Rattle.products.specs.Sums.{term_limit, Plus}
-use Rattle.products.specs.Products.{same_modulo, Holding, holding_nothing, holding_plus, slice_coefficients}
+use Rattle.products.specs.Products.{same_modulo, Holding, holding_nothing, holding_plus}
 
 -- a sum with one term
 total_single : (n : ℕ) (f : ℕ → ℕ) (i : ℕ) → i < n → ((l : ℕ) → l ≢ i → f l ≡ 0) → total n f ≡ f i
@@ -33,16 +32,6 @@ moved_entries p n s a = polynomial_product n (polynomial_matrix n s) (characteri
 abbrev pub returned_entries : ℕ → List ℕ → List ℕ → PolynomialEntries
 returned_entries n d t = polynomial_product n (diagonal_matrix (diagonal n d)) (polynomial_matrix n t)
 
--- the entry (i, j) of D QI, from their payloads
-pub record Returning (n i j : ℕ) (d s : List ℕ) : Type 0 where
-  pub inside : Inside n i j
-  pub diagonal_long : length d ≡ n * suc n
-  pub right_long : length s ≡ n * n * n
-
-pub diagonal_coefficients : (n i start m : ℕ) (s : List ℕ) → i < n → start ≡ i * suc n → length s ≡ n * suc n → m ≡ suc n → let e = take m (drop start s) in (length e ≡ suc n) × (at e ≡ diagonal n s i)
-unfolding diagonal
-diagonal_coefficients n i start m s l o e d = rw o (let c = slice_coefficients (suc n) (i * suc n) m s (omega (arith, diagonal_inside n i l)) d in (c.0, fun_ext c.1))
-
 pub returned_entry : (n i j : ℕ) (d s f g after : List ℕ) → i < n → at f ≡ diagonal n d i → at g ≡ polynomial_matrix n s i j → Plus after (replicate term_limit 0) (convolution (at f) (at g)) → Holding after (returned_entries n d s i j)
 returned_entry n i j d s f g after l e o q =
     let h = holding_plus after (replicate term_limit 0) (λ k. 0) _ holding_nothing q in
@@ -51,15 +40,12 @@ returned_entry n i j d s f g after l e o q =
       each = λ k. h.each k ∙ zero-add _ ∙ ap₂ (λ (x y : Coefficients). convolution x y k) e o ∙ ap (λ (x : Coefficients). x k) (sym (diagonal_entry n (diagonal n d) (polynomial_matrix n s) i j l));
     }
 
--- the payloads of P, A, D and QI
-pub record SmithPayloads (p n : ℕ) (s a d t : List ℕ) : Type 0 where
-  pub order : n ≤ order_limit
+-- the payloads of P, A and QI
+pub record SmithPayloads (p n : ℕ) (s a t : List ℕ) : Type 0 where
   pub left_long : length s ≡ n * n * n
   pub matrix_long : length a ≡ n * n
-  pub diagonal_long : length d ≡ n * suc n
   pub right_long : length t ≡ n * n * n
   pub small : (k : ℕ) → at a k < p
-  pub limited : p ≤ 255
 
 -- the entry (i, j) of P(XE-A) is that of D QI
 abbrev pub smith_entry_test : ℕ → ℕ → List ℕ → List ℕ → List ℕ → List ℕ → ℕ → ℕ → Bool

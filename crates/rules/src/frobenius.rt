@@ -4,61 +4,55 @@ ghost use Rattle.forms.specs.Numbers.{at};
 ghost use Rattle.forms.specs.Matrices.{matrix, diagonal};
 ghost use Rattle.forms.specs.Frobenius.{companion, frobenius};
 ghost use Rattle.forms.specs.Rules.{field_equal};
-ghost use Rattle.rules.specs.Diagonal.{DiagonalPayload, Degrees};
 ghost use Rattle.rules.specs.FrobeniusSearch.{CompanionPlace, FrobeniusPayloads};
 ghost use Rattle.products.specs.Searches.{failing};
 
-use crate::diagonal::polynomial;
-use forms::ORDER;
+use crate::diagonal::Diagonal;
 use matrices::loading::field_entry;
+use residues::modulus::Modulus;
 
-// The entry (i, j) of the companion block of f_b, of degree m.
-fn companion_entry(form: &[u8], b: usize, m: usize, i: usize, j: usize, n: usize, p: u8) -> u8
-    requires { CompanionPlace p n b m i form.now × (j < m) }
-    ensures { result ≡ companion p m (diagonal n form.now b) i j }
+// The entry (i, j) of the companion block of f_b, of this degree.
+fn companion_entry(d: &Diagonal, b: usize, degree: usize, i: usize, j: usize, m: Modulus) -> u8
+    requires { CompanionPlace m.p d.now.order.n b degree i d.now.bytes.now × (j < degree) }
+    ensures { result ≡ companion m.p degree (diagonal d.now.order.n d.now.bytes.now b) i j }
 {
-    if j + 1 == m {
-        return (p - polynomial(form, b, n)[i]) % p;
+    if j + 1 == degree {
+        return (m.p - d.polynomial(b)[i]) % m.p;
     }
     u8::from(i == j + 1)
 }
 
 // The entry (i, j) of the Frobenius form: past each block before it, then in its block or beside it.
-fn frobenius_entry(form: &[u8], degrees: [usize; ORDER], i: usize, j: usize, n: usize, p: u8) -> u8
-    requires { DiagonalPayload n form.now × Degrees n form.now degrees × ((k : ℕ) → at form.now k < p) }
-    ensures { result ≡ frobenius p n (diagonal n form.now) i j }
+fn frobenius_entry(d: &Diagonal, i: usize, j: usize, m: Modulus) -> u8
+    requires { (k : ℕ) → at d.now.bytes.now k < m.p }
+    ensures { result ≡ frobenius m.p d.now.order.n (diagonal d.now.order.n d.now.bytes.now) i j }
 {
     let mut row = i;
     let mut column = j;
-    for b in 0..n {
-        let m = degrees[b];
-        if row < m && column < m {
-            return companion_entry(form, b, m, row, column, n, p);
+    for b in 0..d.order.n {
+        let degree = d.degrees[b];
+        if row < degree && column < degree {
+            return companion_entry(d, b, degree, row, column, m);
         }
-        if row < m || column < m {
+        if row < degree || column < degree {
             return 0;
         }
-        row -= m;
-        column -= m;
+        row -= degree;
+        column -= degree;
     }
     0
 }
 
 // Rule 7, which fails at the first entry of F that is not that of the Frobenius form.
-pub fn frobenius_rule(
-    form: &[u8],
-    degrees: [usize; ORDER],
-    field: &[u8],
-    n: usize,
-    p: u8,
-) -> Result<(), u8>
-    requires { FrobeniusPayloads p n form.now field.now × Degrees n form.now degrees }
-    ensures { result ≡ failing (field_equal p n (matrix n field.now) (frobenius p n (diagonal n form.now))) 7 }
+pub fn frobenius_rule(d: &Diagonal, field: &[u8], m: Modulus) -> Result<(), u8>
+    requires { FrobeniusPayloads m.p d.now.order.n d.now.bytes.now field.now }
+    ensures { result ≡ failing (field_equal m.p d.now.order.n (matrix d.now.order.n field.now) (frobenius m.p d.now.order.n (diagonal d.now.order.n d.now.bytes.now))) 7 }
 {
+    let order = d.order;
     let failed = 'rows: {
-        for i in 0..n {
-            for j in 0..n {
-                if field_entry(field, i, j, n) != frobenius_entry(form, degrees, i, j, n, p) {
+        for i in 0..order.n {
+            for j in 0..order.n {
+                if field_entry(field, i, j, order) != frobenius_entry(d, i, j, m) {
                     break 'rows Err(7);
                 }
             }

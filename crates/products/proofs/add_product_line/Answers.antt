@@ -14,26 +14,25 @@ loop-k-init c = line_products_none _ _ _ _
 pub add_scaled_line-requires : goal.add_scaled_line-requires
 add_scaled_line-requires c =
     let h = c.requires in let a = c.args in let l = c.loop-k in
-    let inside : l.k < a.n = omega (arith, h.left_long, c.loop-k-test.true) in
+    let inside : l.k < a.order.n = omega (arith, h.left_long, c.loop-k-test.true) in
     record {
       byte = omega (arith, c.from.ensures, c.type_inv.f l.k);
       inside = inside;
-      order = h.order;
       row = h.row;
       right_long = h.right_long;
-      has_room = line_products_room a.n _ _ l.k a.line.now l.line l.invariant (λ i. omega (arith, c.type_inv.f i)) (matrix_bytes a.n a.right.now (λ i. omega (arith, c.type_inv.right i)) a.l) inside h.has_room;
+      has_room = line_products_room a.order.n _ _ l.k a.line.now l.line l.invariant (λ i. omega (arith, c.type_inv.f i)) (matrix_bytes a.order.n a.right.now (λ i. omega (arith, c.type_inv.right i)) a.l) inside h.has_room;
     }
 
 pub loop-k-preserved : goal.loop-k-preserved
 loop-k-preserved c =
     let a = c.args in let l = c.loop-k in
-    let f = at a.f.now in let g = polynomial_matrix a.n a.right.now a.l in
+    let f = at a.f.now in let g = polynomial_matrix a.order.n a.right.now a.l in
     elim c.if-x-ne0.branch [
-      | then-x-ne0 w ↦ rw w.line-is (line_products_more a.n f g l.k a.line.now l.line l.invariant _ w.from.ensures _ w.add_scaled_line.ensures)
-      | else-x-ne0 w ↦ rw w.line-is (line_products_skip a.n f g l.k a.line.now l.line l.invariant w.if-x-ne0.false)
+      | then-x-ne0 w ↦ rw w.line-is (line_products_more a.order.n f g l.k a.line.now l.line l.invariant _ w.from.ensures _ w.add_scaled_line.ensures)
+      | else-x-ne0 w ↦ rw w.line-is (line_products_skip a.order.n f g l.k a.line.now l.line l.invariant w.if-x-ne0.false)
     ]
 
 pub returns : goal.returns
 returns c =
     let h = c.requires.left_long in let a = c.args in let l = c.loop-k in
-    line_products_all a.n _ _ l.k a.line.now l.line l.invariant (omega (arith, l.auto.k-end)) (omega (arith, c.loop-k-test.false)) (λ k m. list_short a.f.now k (omega arith))
+    line_products_all a.order.n _ _ l.k a.line.now l.line l.invariant (omega (arith, l.auto.k-end)) (omega (arith, c.loop-k-test.false)) (λ k m. list_short a.f.now k (omega arith))

@@ -6,4 +6,4 @@ use Rattle.products.specs.Lines.{PlusLine}
 use Rattle.products.proofs.add_product_line.Given as goal
 
 abbrev pub invariant-loop-k : goal.invariant-loop-k
-invariant-loop-k l = PlusLine l.n l.line l.initial.line (λ j. products l.k (at l.f) (polynomial_matrix l.n l.right l.l j))
+invariant-loop-k l = PlusLine l.order.n l.line l.initial.line (λ j. products l.k (at l.f) (polynomial_matrix l.order.n l.right l.l j))

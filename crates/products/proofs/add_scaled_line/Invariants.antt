@@ -6,4 +6,4 @@ use Rattle.products.specs.Lines.{PlusLine}
 use Rattle.products.proofs.add_scaled_line.Given as goal
 
 abbrev pub invariant-loop-j : goal.invariant-loop-j
-invariant-loop-j l = PlusLine l.j l.line l.initial.line (λ m k. l.x * shifted l.shift (polynomial_matrix l.n l.right l.l m) k)
+invariant-loop-j l = PlusLine l.j l.line l.initial.line (λ m k. l.x * shifted l.shift (polynomial_matrix l.order.n l.right l.l m) k)

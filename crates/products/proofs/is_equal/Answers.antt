@@ -8,5 +8,5 @@ use Rattle.products.proofs.is_equal.Goals as goal
 
 pub returns : goal.returns
 returns c =
-    let a = c.args in let z = suc (2 * a.n) in let t : ℕ → Bool = λ k. eqb (at a.f.now k % a.p) (at a.g.now k % a.p) in
+    let a = c.args in let z = suc (2 * a.order.n) in let t : ℕ → Bool = λ k. eqb (at a.f.now k % a.m.p) (at a.g.now k % a.m.p) in
     all_from_yields_List t _ _ _ c.all.ensures.ran (YieldsList-from_range 0 _ z refl (omega arith)) (λ x b q k. search (rules, tests)) ∙ every_range z t

@@ -9,5 +9,5 @@ use Rattle.products.proofs.is_unit_entry.Goals as goal
 
 pub returns : goal.returns
 returns c =
-    let a = c.args in let z = suc (2 * a.n) in let t : ℕ → Bool = λ k. eqb (at a.sums.now k % a.p) (polynomial_unit a.i a.j k % a.p) in
+    let a = c.args in let z = suc (2 * a.order.n) in let t : ℕ → Bool = λ k. eqb (at a.sums.now k % a.m.p) (polynomial_unit a.i a.j k % a.m.p) in
     all_from_yields_List t _ _ _ c.all.ensures.ran (YieldsList-from_range 0 _ z refl (omega arith)) (λ x b q k. search (rules, tests)) ∙ every_range z t

@@ -5,4 +5,4 @@ use Rattle.products.specs.Lines.{HoldingLine}
 use Rattle.products.proofs.product_line.Given as goal
 
 abbrev pub invariant-loop-l : goal.invariant-loop-l
-invariant-loop-l l = HoldingLine l.n l.line (partial l.l (polynomial_matrix l.n l.left) (polynomial_matrix l.n l.right) l.i)
+invariant-loop-l l = HoldingLine l.order.n l.line (partial l.l (polynomial_matrix l.order.n l.left) (polynomial_matrix l.order.n l.right) l.i)

@@ -5,6 +5,5 @@ use Rattle.rules.proofs.diagonal.degree_of.Goals as goal
 
 pub returns : goal.returns
 returns c =
-    let a = c.args in
-    let last : LastNonzero c.polynomial-f.result.now c.rposition.result = search rules in
-    c.unwrap_or.ensures ∙ degree_last a.n a.form.now a.i _ c.polynomial-f.ensures last
+    let last : LastNonzero c.args.f.now c.rposition.result = search rules in
+    c.unwrap_or.ensures ∙ degree_last c.args.f.now _ last

@@ -7,4 +7,4 @@ use Rattle.matrices.specs.Filling.{filled}
 use Rattle.rules.proofs.diagonal.degrees_of.Given as goal
 
 abbrev pub invariant-loop-i : goal.invariant-loop-i
-invariant-loop-i l = l.degrees ≡ filled l.i (λ k. degree l.n (diagonal l.n l.form k)) (replicate order_limit 0)
+invariant-loop-i l = l.degrees ≡ filled l.i (λ k. degree l.order.n (diagonal l.order.n l.bytes k)) (replicate order_limit 0)

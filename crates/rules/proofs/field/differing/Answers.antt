@@ -20,4 +20,4 @@ loop-i-preserved c = let l = c.loop-j in every_turn _ _ c.loop-i.invariant (ever
 pub returns-then-a-i : goal.returns-then-a-i
 returns-then-a-i c =
     let a = c.args in
-    entry_failed a.n (λ i j. eqb (cell a.a i j) (cell a.b i j)) a.rule c.loop-i.i c.loop-j.j c.loop-i-test.true c.loop-j-test.true (ne_eqb _ _ c.if-a-i.true)
+    entry_failed a.order.n (λ i j. eqb (cell a.a i j) (cell a.b i j)) a.rule c.loop-i.i c.loop-j.j c.loop-i-test.true c.loop-j-test.true (ne_eqb _ _ c.if-a-i.true)

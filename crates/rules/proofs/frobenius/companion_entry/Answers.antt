@@ -7,13 +7,10 @@ use Rattle.rules.proofs.frobenius.companion_entry.Goals as goal
 pub overflow_sub-result : goal.overflow_sub-result
 overflow_sub-result c = let h = c.requires.0 in omega (arith, coefficient_small c.polynomial.ensures h.small c.args.i (omega (arith, h.row, h.degree)))
 
-pub nonzero_rem-result : goal.nonzero_rem-result
-nonzero_rem-result c = omega (arith, c.requires.0.small 0)
-
-pub returns-then-j-m : goal.returns-then-j-m
-returns-then-j-m c =
+pub returns-then-j-degree : goal.returns-then-j-degree
+returns-then-j-degree c =
     let a = c.args in
-    companion_last a.p a.m _ a.i a.j _ c.if-j-m.true (sym (c.polynomial.ensures.coefficient a.i))
+    companion_last a.m.p a.degree _ a.i a.j _ c.if-j-degree.true (sym (c.polynomial.ensures.coefficient a.i))
 
 pub returns : goal.returns
-returns c = let a = c.args in companion_before a.p a.m _ a.i a.j _ c.if-j-m.false c.from.ensures
+returns c = let a = c.args in companion_before a.m.p a.degree _ a.i a.j _ c.if-j-degree.false c.from.ensures

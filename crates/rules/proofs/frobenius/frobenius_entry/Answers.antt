@@ -11,27 +11,27 @@ loop-b-init c = behind_none _ _ _ _ _
 pub companion_entry-requires : goal.companion_entry-requires
 companion_entry-requires c =
     let a = c.args in let l = c.loop-b in
-    (record { payload = c.requires.0; small = c.requires.2; block = c.loop-b-test.true; degree = omega (arith, c.requires.1 l.b c.loop-b-test.true, degree_limited a.n (diagonal a.n a.form.now l.b)); row = c.if-row-m.true }, c.if-column-m.true)
+    (record { small = c.requires; block = c.loop-b-test.true; degree = omega (arith, a.d.now.degrees_are l.b c.loop-b-test.true, degree_limited a.d.now.order.n (diagonal a.d.now.order.n a.d.now.bytes.now l.b)); row = c.if-row-degree.true }, c.if-column-degree.true)
 
-pub returns-then-column-m : goal.returns-then-column-m
-returns-then-column-m c =
+pub returns-then-column-degree : goal.returns-then-column-degree
+returns-then-column-degree c =
     let a = c.args in let l = c.loop-b in
-    c.companion_entry.ensures ∙ behind_here a.p a.n _ a.i a.j l.b l.row l.column _ l.invariant (c.requires.1 l.b c.loop-b-test.true) c.loop-b-test.true c.if-row-m.true c.if-column-m.true
+    c.companion_entry.ensures ∙ behind_here a.m.p a.d.now.order.n _ a.i a.j l.b l.row l.column _ l.invariant (a.d.now.degrees_are l.b c.loop-b-test.true) c.loop-b-test.true c.if-row-degree.true c.if-column-degree.true
 
-pub returns-then-row-m-2 : goal.returns-then-row-m-2
-returns-then-row-m-2 c =
-    let a = c.args in let l = c.loop-b in let is = c.requires.1 l.b c.loop-b-test.true in
-    elim c.else-row-m.either [
-      | inl w ↦ behind_above a.p a.n _ a.i a.j l.b l.row l.column _ l.invariant is c.loop-b-test.true w.0 w.1
-      | inr w ↦ behind_below a.p a.n _ a.i a.j l.b l.row l.column _ l.invariant is c.loop-b-test.true w (elim c.then-row-m-2.either [ inl v ↦ absurd (omega arith) | inr v ↦ v.1 ])
+pub returns-then-row-degree-2 : goal.returns-then-row-degree-2
+returns-then-row-degree-2 c =
+    let a = c.args in let l = c.loop-b in let is = a.d.now.degrees_are l.b c.loop-b-test.true in
+    elim c.else-row-degree.either [
+      | inl w ↦ behind_above a.m.p a.d.now.order.n _ a.i a.j l.b l.row l.column _ l.invariant is c.loop-b-test.true w.0 w.1
+      | inr w ↦ behind_below a.m.p a.d.now.order.n _ a.i a.j l.b l.row l.column _ l.invariant is c.loop-b-test.true w (elim c.then-row-degree-2.either [ inl v ↦ absurd (omega arith) | inr v ↦ v.1 ])
     ]
 
 pub loop-b-preserved : goal.loop-b-preserved
 loop-b-preserved c =
     let a = c.args in let l = c.loop-b in
-    behind_more a.p a.n _ a.i a.j l.b l.row l.column _ l.invariant (c.requires.1 l.b c.loop-b-test.true) c.loop-b-test.true c.if-row-m-2.false c.if-column-m-2.false
+    behind_more a.m.p a.d.now.order.n _ a.i a.j l.b l.row l.column _ l.invariant (a.d.now.degrees_are l.b c.loop-b-test.true) c.loop-b-test.true c.if-row-degree-2.false c.if-column-degree-2.false
 
 pub returns : goal.returns
 returns c =
     let a = c.args in let l = c.loop-b in
-    behind_all a.p a.n _ a.i a.j l.b l.row l.column l.invariant c.loop-b-test.false
+    behind_all a.m.p a.d.now.order.n _ a.i a.j l.b l.row l.column l.invariant c.loop-b-test.false

@@ -5,4 +5,4 @@ use Rattle.rules.specs.Moved.{field_term}
 use Rattle.rules.proofs.smith.add_field_row.Given as goal
 
 abbrev pub invariant-loop-j : goal.invariant-loop-j
-invariant-loop-j l = PlusLine l.j l.line l.initial.line (field_term l.p (matrix l.n l.field) l.x l.k l.l)
+invariant-loop-j l = PlusLine l.j l.line l.initial.line (field_term l.fn.m.p (matrix l.order.n l.field) l.x l.k l.l)

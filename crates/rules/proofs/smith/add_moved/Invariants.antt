@@ -6,4 +6,4 @@ use Rattle.products.specs.Lines.{PlusLine}
 use Rattle.rules.proofs.smith.add_moved.Given as goal
 
 abbrev pub invariant-loop-k : goal.invariant-loop-k
-invariant-loop-k l = PlusLine l.n l.line l.initial.line (λ j. products l.k (at l.f) (characteristic l.p (matrix l.n l.field) l.l j))
+invariant-loop-k l = PlusLine l.order.n l.line l.initial.line (λ j. products l.k (at l.f) (characteristic l.m.p (matrix l.order.n l.field) l.l j))

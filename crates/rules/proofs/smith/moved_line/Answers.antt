@@ -8,7 +8,7 @@ use Rattle.rules.specs.Moved.{characteristic_bytes}
 use Rattle.rules.proofs.smith.moved_line.Goals as goal
 
 pub loop-l-init : goal.loop-l-init
-loop-l-init c = line_partial_none _ _ _ _ c.requires.payload.order
+loop-l-init c = line_partial_none _ _ _ _ c.args.order.limited
 
 pub add_moved-requires : goal.add_moved-requires
 add_moved-requires c =
@@ -17,14 +17,14 @@ add_moved-requires c =
       payload = h.payload;
       row = c.loop-l-test.true;
       left_long = c.entry.ensures.0;
-      has_room = line_partial_room _ _ a.n a.i l.l l.line l.invariant (polynomial_matrix_short a.n a.left.now)
-          (matrix_bytes a.n a.left.now (λ k. omega (arith, c.type_inv.left k))) (characteristic_bytes a.p (matrix a.n a.field.now) h.payload.limited) h.payload.order l.auto.l-end;
+      has_room = line_partial_room _ _ a.order.n a.i l.l l.line l.invariant (polynomial_matrix_short a.order.n a.left.now)
+          (matrix_bytes a.order.n a.left.now (λ k. omega (arith, c.type_inv.left k))) (characteristic_bytes a.m.p (matrix a.order.n a.field.now) (omega arith)) a.order.limited l.auto.l-end;
     }
 
 pub loop-l-preserved : goal.loop-l-preserved
 loop-l-preserved c =
     let a = c.args in let l = c.loop-l in
-    line_partial_more _ _ a.n a.i l.l l.line l.invariant _ _ c.entry.ensures.1 c.add_moved.ensures
+    line_partial_more _ _ a.order.n a.i l.l l.line l.invariant _ _ c.entry.ensures.1 c.add_moved.ensures
 
 pub returns : goal.returns
-returns c = let a = c.args in let l = c.loop-l in line_partial_all _ _ a.n a.i l.l l.line l.invariant l.auto.l-end c.loop-l-test.false
+returns c = let a = c.args in let l = c.loop-l in line_partial_all _ _ a.order.n a.i l.l l.line l.invariant l.auto.l-end c.loop-l-test.false

@@ -1,24 +1,20 @@
 -- D is diagonal, so the entry is one product of polynomials.
-use Rattle.std.proofs.Common.{◌+◌, ◌-◌, arith}
+use Rattle.std.proofs.Common.{arith}
 use Rattle.products.specs.Products.{holding_nothing}
-use Rattle.rules.specs.SmithEntries.{diagonal_coefficients, returned_entry}
+use Rattle.rules.specs.Diagonal.{coefficients_are}
+use Rattle.rules.specs.SmithEntries.{returned_entry}
 use Rattle.rules.proofs.smith.returned_entry.Goals as goal
-
-pub polynomial_start-start-requires : goal.polynomial_start-start-requires
-polynomial_start-start-requires c = (c.requires.inside.order, c.requires.inside.row)
 
 pub add_product-requires : goal.add_product-requires
 add_product-requires c =
-    let a = c.args in let h = c.requires in let o = h.inside.order in let start = c.polynomial_start-start in
-    let f = diagonal_coefficients a.n a.i start.result (start.result + a.n + 1 - start.result) a.form.now h.inside.row start.ensures.0 h.diagonal_long (omega arith) in
+    let f = c.polynomial.ensures in
     record {
-      inside = omega (arith, f.0, c.entry.ensures.0);
+      inside = omega (arith, f.long, c.entry.ensures.0);
       long = holding_nothing.long;
-      low = λ k. omega (arith, f.0, holding_nothing.each k);
+      low = λ k. omega (arith, f.long, holding_nothing.each k);
     }
 
 pub returns : goal.returns
 returns c =
-    let a = c.args in let h = c.requires in let start = c.polynomial_start-start in
-    let f = diagonal_coefficients a.n a.i start.result (start.result + a.n + 1 - start.result) a.form.now h.inside.row start.ensures.0 h.diagonal_long (omega arith) in
-    returned_entry a.n a.i a.j a.form.now a.right.now _ _ _ h.inside.row f.1 c.entry.ensures.1 c.add_product.ensures
+    let a = c.args in let d = a.d.now in
+    returned_entry d.order.n a.i a.j d.bytes.now a.right.now _ _ _ c.requires.0.row (coefficients_are c.polynomial.ensures) c.entry.ensures.1 c.add_product.ensures

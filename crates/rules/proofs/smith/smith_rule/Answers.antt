@@ -1,5 +1,5 @@
 -- Rows and columns are searched up to the first entry that differs.
-use Rattle.std.proofs.Common.{◌∙◌, suc, ◌*◌, arith}
+use Rattle.std.proofs.Common.{◌∙◌, suc, ◌*◌}
 use Rattle.matrices.specs.Filling.{every_start, every_turn}
 use Rattle.products.specs.Lines.{line_test}
 use Rattle.products.specs.Searches.{every_all, all_passed, entry_failed}
@@ -12,20 +12,18 @@ loop-i-init c = every_start _
 pub moved_line-line-requires : goal.moved_line-line-requires
 moved_line-line-requires c =
     let h = c.requires in
-    record { payload = record { order = h.order; matrix_long = h.matrix_long; small = h.small; limited = h.limited }; row = c.loop-i-test.true; left_long = h.left_long }
+    record { payload = record { matrix_long = h.matrix_long; small = h.small }; row = c.loop-i-test.true; left_long = h.left_long }
 
 pub loop-j-init : goal.loop-j-init
 loop-j-init c = every_start _
 
 pub is_returned-requires : goal.is_returned-requires
-is_returned-requires c =
-    let h = c.requires in
-    (record { inside = record { order = h.order; row = c.loop-i-test.true; column = c.loop-j-test.true }; diagonal_long = h.diagonal_long; right_long = h.right_long }, omega (arith, h.small 0))
+is_returned-requires c = (record { row = c.loop-i-test.true; column = c.loop-j-test.true }, c.requires.right_long)
 
 pub loop-j-preserved : goal.loop-j-preserved
 loop-j-preserved c =
     let a = c.args in
-    every_turn _ _ c.loop-j.invariant (line_test a.p (suc (2 * a.n)) _ _ _ c.moved_line-line.ensures _ c.loop-j-test.true (returned_entries a.n a.form.now a.right.now c.loop-i.i c.loop-j.j) _ c.is_returned.ensures ∙ c.if-not-is_returned.false)
+    every_turn _ _ c.loop-j.invariant (line_test a.m.p (suc (2 * a.d.now.order.n)) _ _ _ c.moved_line-line.ensures _ c.loop-j-test.true (returned_entries a.d.now.order.n a.d.now.bytes.now a.right.now c.loop-i.i c.loop-j.j) _ c.is_returned.ensures ∙ c.if-not-is_returned.false)
 
 pub loop-i-preserved : goal.loop-i-preserved
 loop-i-preserved c = let l = c.loop-j in every_turn _ _ c.loop-i.invariant (every_all _ _ l.j l.invariant l.auto.j-end c.loop-j-test.false)
@@ -36,5 +34,5 @@ returns-after-loop-i c = let l = c.loop-i in all_passed _ _ 6 l.i l.invariant l.
 pub returns-then-not-is_returned : goal.returns-then-not-is_returned
 returns-then-not-is_returned c =
     let a = c.args in
-    entry_failed a.n (smith_entry_test a.p a.n a.left.now a.field.now a.form.now a.right.now) 6 c.loop-i.i c.loop-j.j c.loop-i-test.true c.loop-j-test.true
-    (line_test a.p (suc (2 * a.n)) _ _ _ c.moved_line-line.ensures _ c.loop-j-test.true (returned_entries a.n a.form.now a.right.now c.loop-i.i c.loop-j.j) _ c.is_returned.ensures ∙ c.if-not-is_returned.true)
+    entry_failed a.d.now.order.n (smith_entry_test a.m.p a.d.now.order.n a.left.now a.field.now a.d.now.bytes.now a.right.now) 6 c.loop-i.i c.loop-j.j c.loop-i-test.true c.loop-j-test.true
+    (line_test a.m.p (suc (2 * a.d.now.order.n)) _ _ _ c.moved_line-line.ensures _ c.loop-j-test.true (returned_entries a.d.now.order.n a.d.now.bytes.now a.right.now c.loop-i.i c.loop-j.j) _ c.is_returned.ensures ∙ c.if-not-is_returned.true)

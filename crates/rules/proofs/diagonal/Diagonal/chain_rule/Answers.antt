@@ -2,7 +2,7 @@
 use Rattle.std.proofs.Common.{sym, ◌∙◌}
 use Rattle.matrices.specs.Filling.{every_start, every_turn}
 use Rattle.products.specs.Searches.{one_failed}
-use Rattle.rules.proofs.diagonal.chain_rule.Goals as goal
+use Rattle.rules.proofs.diagonal.Diagonal.chain_rule.Goals as goal
 
 pub loop-i-init : goal.loop-i-init
 loop-i-init c = every_start _
