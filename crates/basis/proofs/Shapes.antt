@@ -1,26 +1,21 @@
--- What the type of a state says of its list: there are three arrays of arrays.
+-- What the type of a state says of its lists: there are three arrays of arrays.
 use mathlib.Core.Path.{◌≡◌}
 use mathlib.Core.List.{List, [], ◌∷◌}
-use Prim.Native.Nat.{ℕ, zero, suc, ◌<◌}
-use native.Mathlib.Nat.{le_of_suc-le-suc, not-suc-le-zero}
-use native.Mathlib.Omega.{arith}
-use lib.ListN.{length, get_or}
+use Prim.Native.Nat.{ℕ}
+use lib.ListN.{length}
 use mir.Syntax.{w8}
 use mir.Val.{Val}
-use denote.Array.{Array, each}
+use denote.Array.{Array, array_val, each}
 use denote.Shadow.{shadow}
 use denote.Plain.{UInt}
 use Rattle.forms.specs.Numbers.{order_limit}
-use Rattle.matrices.specs.Matrices.{Square}
 use Rattle.matrices.proofs.Shapes.{square}
-use Rattle.basis.specs.State.{State, Squares}
+use Rattle.basis.specs.declared.steps.State.{State}
+use Rattle.basis.specs.State.{Squares}
 
-square_at : (s : State) (vs : List Val) (i : ℕ) → shadow (each (List (List ℕ)) (Array (Array (UInt w8) order_limit) order_limit).own_val s vs) → i < length s → Square (get_or s i [])
-square_at [] vs i h l = absurd (not-suc-le-zero l)
-square_at (m ∷ s) [] i h l = absurd h
-square_at (m ∷ s) (x ∷ vs) zero h l = square m _ h.0.1.0.1 h.0.1.1
-square_at (m ∷ s) (x ∷ vs) (suc i) h l = square_at s vs i h.1 (le_of_suc-le-suc l)
+abbrev Laid : List (List ℕ) → List Val → Type 0
+Laid m v = (x : List Val) × (((v ≡ array_val x ∷ []) × (length m ≡ order_limit)) × shadow (each (List ℕ) (Array (UInt w8) order_limit).own_val m x))
 
--- of a parameter s that stands first: squares c.args.s _ c.well_formed.0.1.0.1 c.well_formed.0.1.1
-pub squares : (s : State) (vs : List Val) → length s ≡ 3 → shadow (each (List (List ℕ)) (Array (Array (UInt w8) order_limit) order_limit).own_val s vs) → Squares s
-squares s vs e h = record { three = e; square = λ i l. square_at s vs i h (omega arith) }
+-- of a parameter s that stands first: squares c.args.s c.well_formed.0.1.1
+pub squares : (s : State) {u v w : List Val} {R : Type 0} → Laid s.b u × (Laid s.t v × (Laid s.back w × R)) → Squares s
+squares s h = record { B = square s.b _ h.0.1.0.1 h.0.1.1; T = square s.t _ h.1.0.1.0.1 h.1.0.1.1; I = square s.back _ h.1.1.0.1.0.1 h.1.1.0.1.1 }

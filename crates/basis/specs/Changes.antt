@@ -1,5 +1,5 @@
 -- The steps on a whole state: a column and a row operation, each on two of the three matrices, and the two changes of basis that are made of them.
-use Rattle.std.specs.Prelude.{◌≡◌, ◌≢◌, List, [], ℕ, ◌-◌, ◌≤◌, ◌<◌, get_or}
+use Rattle.std.specs.Prelude.{◌≡◌, ◌≢◌, List, [], ℕ, ◌-◌, ◌≤◌, ◌<◌, get_or, set}
 use Rattle.std.proofs.Math.Path.{refl, ap₂, fun_ext}
 use Rattle.std.proofs.Common.{sym, ◌∙◌, ap, subst, arith}
 use Rattle.std.proofs.Math.Decide.{ℕ_discrete}
@@ -16,44 +16,39 @@ use Rattle.basis.specs.Entries.{inner_none}
 use Rattle.basis.specs.Frame.{Frame}
 use Rattle.basis.specs.Shear.{taken, Sheared, OnColumns, OnRows, sheared_by}
 use Rattle.basis.specs.Replace.{added, pivot_is, Replaced}
-use Rattle.basis.specs.Overwriting.{rows_pair, row_set, other_matrix, rows_set, Overwritten}
-use Rattle.basis.specs.State.{Array, State, frame, Fields, Squares, unit_vector, plus_row_vector, zero_vector}
+use Rattle.basis.specs.Overwriting.{Overwritten}
+use Rattle.basis.specs.declared.steps.State.{State}
+use Rattle.basis.specs.State.{frame, Fields, Squares, unit_vector, plus_row_vector, zero_vector}
 use Rattle.basis.specs.Steps.{ColumnsChanged, RowsChanged, Combination, column_rule, columns_rule, rows_rule, column_set, column_added, row_added, opposite_unit, row_taken}
 
 -- two matrices of a state are changed, and the third is left
-on_columns : (p n : ℕ) (u v : Vector (modulo p)) (s r : State) → Fields p n s → ColumnsChanged p n u v (get_or s 0 []) (get_or r 0 []) → ColumnsChanged p n u v (get_or s 1 []) (get_or r 1 []) → get_or r 2 [] ≡ get_or s 2 []
+on_columns : (p n : ℕ) (u v : Vector (modulo p)) (s r : State) → Fields p n s → ColumnsChanged p n u v s.b r.b → ColumnsChanged p n u v s.t r.t → r.back ≡ s.back
     → Fields p n r × OnColumns (modulo p) n u v (frame p n s) (frame p n r)
 on_columns p n u v s r f b t e = (record { B = b.field; T = t.field; I = rw e f.I }, record { B = b.is; T = t.is; I = ap (matrix p n) e })
 
-on_rows : (p n : ℕ) (u v : Vector (modulo p)) (s r : State) → Fields p n s → RowsChanged p n u v (get_or s 0 []) (get_or r 0 []) → RowsChanged p n u v (get_or s 2 []) (get_or r 2 []) → get_or r 1 [] ≡ get_or s 1 []
+on_rows : (p n : ℕ) (u v : Vector (modulo p)) (s r : State) → Fields p n s → RowsChanged p n u v s.b r.b → RowsChanged p n u v s.back r.back → r.t ≡ s.t
     → Fields p n r × OnRows (modulo p) n u v (frame p n s) (frame p n r)
 on_rows p n u v s r f b i e = (record { B = b.field; T = rw e f.T; I = i.field }, record { B = b.is; T = ap (matrix p n) e; I = i.is })
 
 -- what the loops over the rows of two matrices make
 module _ (p n : ℕ) (s r : State) (h : 0 < p) (o : n ≤ order_limit) (f : Fields p n s) where
-  pub columns_set : (at : ℕ) (w : List ℕ) → at < n → Squares s → Overwritten 0 1 2 (column_rule p at w) (column_rule p at w) n s r
+  pub columns_set : (at : ℕ) (w : List ℕ) → at < n → Squares s → Overwritten (column_rule p at w) n s.b r.b × Overwritten (column_rule p at w) n s.t r.t × (r.back ≡ s.back)
       → Fields p n r × OnColumns (modulo p) n (added (modulo p) at (vector p n w)) (delta (modulo p) at) (frame p n s) (frame p n r)
-  columns_set at w l q x = on_columns p n _ _ s r f (rw x.first (column_set p n at w h o l (get_or s 0 []) (q.square 0 (omega arith)) f.B)) (rw x.second (column_set p n at w h o l (get_or s 1 []) (q.square 1 (omega arith)) f.T)) x.rest
+  columns_set at w l q x = on_columns p n _ _ s r f (rw x.0.is (column_set p n at w h o l s.b q.B f.B)) (rw x.1.is (column_set p n at w h o l s.t q.T f.T)) x.2
 
-  pub columns_added : (a : ℕ) (v : List ℕ) → a < n → FieldRow p n v → Overwritten 0 1 2 (columns_rule p a v) (columns_rule p a v) n s r
+  pub columns_added : (a : ℕ) (v : List ℕ) → a < n → FieldRow p n v → Overwritten (columns_rule p a v) n s.b r.b × Overwritten (columns_rule p a v) n s.t r.t × (r.back ≡ s.back)
       → Fields p n r × OnColumns (modulo p) n (delta (modulo p) a) (vector p n v) (frame p n s) (frame p n r)
-  columns_added a v l g x = on_columns p n _ _ s r f (rw x.first (column_added p n h o (get_or s 0 []) f.B a v l g)) (rw x.second (column_added p n h o (get_or s 1 []) f.T a v l g)) x.rest
+  columns_added a v l g x = on_columns p n _ _ s r f (rw x.0.is (column_added p n h o s.b f.B a v l g)) (rw x.1.is (column_added p n h o s.t f.T a v l g)) x.2
 
-  pub rows_added : (at : ℕ) (c : List ℕ) → at < n → Overwritten 0 2 1 (rows_rule p c (get_or (get_or s 0 []) at [])) (rows_rule p c (get_or (get_or s 2 []) at [])) n s r
+  pub rows_added : (at : ℕ) (c : List ℕ) → at < n → Overwritten (rows_rule p c (get_or s.b at [])) n s.b r.b × Overwritten (rows_rule p c (get_or s.back at [])) n s.back r.back × (r.t ≡ s.t)
       → Fields p n r × OnRows (modulo p) n (vector p n c) (delta (modulo p) at) (frame p n s) (frame p n r)
-  rows_added at c l x = on_rows p n _ _ s r f (rw x.first (row_added p n h o (get_or s 0 []) f.B at c l)) (rw x.second (row_added p n h o (get_or s 2 []) f.I at c l)) x.rest
+  rows_added at c l x = on_rows p n _ _ s r f (rw x.0.is (row_added p n h o s.b f.B at c l)) (rw x.1.is (row_added p n h o s.back f.I at c l)) x.2
 
 -- the combination v m is taken from row a, of B and then of the inverse of T
-pub rows_taken : (p n a : ℕ) (v y z x w : List ℕ) (s : State) → 0 < p → n ≤ order_limit → a < n → Squares s → Fields p n s → Combination p n v (get_or s 0 []) y → x ≡ plus_row p order_limit (get_or (get_or s 0 []) a []) (p - 1) y
-    → Combination p n v (get_or (row_set s 0 a x) 2 []) z → w ≡ plus_row p order_limit (get_or (get_or (row_set s 0 a x) 2 []) a []) (p - 1) z
-    → Fields p n (row_set (row_set s 0 a x) 2 a w) × OnRows (modulo p) n (opposite_unit p a) (vector p n v) (frame p n s) (frame p n (row_set (row_set s 0 a x) 2 a w))
-rows_taken p n a v y z x w s h o l q f cy ex cz ew =
-    let e : get_or (row_set s 0 a x) 2 [] ≡ get_or s 2 [] = other_matrix rows_pair s a x in
-    let t = rows_set rows_pair s a x w q.three in
-    on_rows p n _ _ s _ f
-    (rw (t.first, ex) (row_taken p n h o (get_or s 0 []) f.B a v y l (q.square 0 (omega arith)).tall cy))
-    (rw (t.second, ew, e) (row_taken p n h o (get_or s 2 []) f.I a v z l (q.square 2 (omega arith)).tall (subst (λ (m : Array). Combination p n v m z) e cz)))
-    t.rest
+pub rows_taken : (p n a : ℕ) (v y z x w : List ℕ) (s : State) → 0 < p → n ≤ order_limit → a < n → Squares s → Fields p n s → Combination p n v s.b y → x ≡ plus_row p order_limit (get_or s.b a []) (p - 1) y
+    → Combination p n v s.back z → w ≡ plus_row p order_limit (get_or s.back a []) (p - 1) z
+    → Fields p n (record s { b = set s.b a x; back = set s.back a w }) × OnRows (modulo p) n (opposite_unit p a) (vector p n v) (frame p n s) (frame p n (record s { b = set s.b a x; back = set s.back a w }))
+rows_taken p n a v y z x w s h o l q f cy ex cz ew = on_rows p n _ _ s _ f (rw ex (row_taken p n h o s.b f.B a v y l q.B.tall cy)) (rw ew (row_taken p n h o s.back f.I a v z l q.I.tall cz)) refl
 
 -- the multiples of row s that replacing e_s by w takes, where d is the inverse of w_s
 abbrev pub multiples : (p s : ℕ) → List ℕ → ℕ → List ℕ

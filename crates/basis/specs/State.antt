@@ -1,5 +1,5 @@
 -- The state in code: B, T and the inverse of T, field matrices by value, as a frame modulo p.
-use Rattle.std.specs.Prelude.{◌≡◌, ◌≢◌, List, [], ℕ, ◌+◌, ◌*◌, ◌%◌, ◌≤◌, ◌<◌, T, length, get_or, set}
+use Rattle.std.specs.Prelude.{◌≡◌, ◌≢◌, List, [], ℕ, ◌+◌, ◌*◌, ◌%◌, ◌≤◌, ◌<◌, T, get_or, set}
 use Rattle.std.proofs.Common.{sym, ◌∙◌, ap, ap₂, mod-lt, mod-eq_of_lt, zero-add, mul-zero, arith, get_or-set_same, get_or-set_other}
 use Rattle.std.proofs.Math.Path.{fun_ext}
 use Rattle.std.proofs.Math.Nat.{zero-mod}
@@ -15,24 +15,22 @@ use Rattle.forms.specs.Primes.{prime_means}
 use Rattle.matrices.specs.Matrices.{cell, vector, matrix, vector_inside, vector_upto, matrix_inside, matrix_within, matrix_is, FieldRow, FieldMatrix, Square, zero_row, zero_row_at}
 use Rattle.matrices.specs.Rows.{plus_row, residue_plus_multiple, unit_row, unit_row_at}
 use Rattle.basis.specs.Frame.{Frame, FrameWithin}
+use Rattle.basis.specs.declared.steps.State.{State}
 
 abbrev pub Array : Type 0
 Array = List (List ℕ)
 
-abbrev pub State : Type 0
-State = List Array
-
 abbrev pub frame : (p n : ℕ) → State → Frame (modulo p)
-frame p n s = record { B = matrix p n (get_or s 0 []); T = matrix p n (get_or s 1 []); I = matrix p n (get_or s 2 []) }
+frame p n s = record { B = matrix p n s.b; T = matrix p n s.t; I = matrix p n s.back }
 
 pub frame_within : (p n : ℕ) (s : State) → FrameWithin (modulo p) n (frame p n s)
 frame_within p n s = record { B = matrix_within p n _; T = matrix_within p n _; I = matrix_within p n _ }
 
 -- the three are field matrices
 pub record Fields (p n : ℕ) (s : State) : Type 0 where
-  pub B : FieldMatrix p n (get_or s 0 [])
-  pub T : FieldMatrix p n (get_or s 1 [])
-  pub I : FieldMatrix p n (get_or s 2 [])
+  pub B : FieldMatrix p n s.b
+  pub T : FieldMatrix p n s.t
+  pub I : FieldMatrix p n s.back
 
 -- what every step is given: an order, a prime, a window [0,k) and a state
 pub record Given (p n k : ℕ) (s : State) : Type 0 where
@@ -54,10 +52,11 @@ given_whole g = record { order = g.order; fits = omega arith; prime_p = g.prime_
 pub given_next : {p n k : ℕ} {s r : State} → Given p n k s → Fields p n r → Given p n k r
 given_next g f = record { order = g.order; fits = g.fits; prime_p = g.prime_p; fields = f }
 
--- the type of a state, as a fact of its list
+-- the type of a state, as a fact of its lists
 pub record Squares (s : State) : Type 0 where
-  pub three : length s ≡ 3
-  pub square : (i : ℕ) → i < 3 → Square (get_or s i [])
+  pub B : Square s.b
+  pub T : Square s.t
+  pub I : Square s.back
 
 pub zero_entry : (p n : ℕ) (b : Array) (i j : ℕ) → i < n → j < n → cell b i j ≡ 0 → matrix p n b i j ≡ (modulo p).zero
 zero_entry p n b i j l g e = matrix_inside p n b i j l g ∙ ap (residue p) e ∙ residue_zero p

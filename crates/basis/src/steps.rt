@@ -16,8 +16,13 @@ use forms::ORDER;
 use matrices::{Mat, Row, unit_row};
 use residues::residue::reciprocal_of;
 
-// B, T and the inverse of T, with A T = T B.
-pub type State = [Mat; 3];
+// A in another basis: B, T and the inverse of T, with A T = T B.
+#[derive(Clone, Copy)]
+pub struct State {
+    pub b: Mat,
+    pub t: Mat,
+    pub back: Mat,
+}
 
 // x · y
 pub fn inner(x: Row, y: Row, m: Modulus) -> u8
@@ -80,8 +85,8 @@ fn set_columns(mut s: State, at: usize, w: Row, n: usize, m: Modulus) -> State
     ensures { Fields m.p n result × OnColumns (modulo m.p) n (added (modulo m.p) at (vector m.p n w)) (delta (modulo m.p) at) (frame m.p n s) (frame m.p n result) }
 {
     for i in 0..n {
-        s[0][i][at] = inner(s[0][i], w, m);
-        s[1][i][at] = inner(s[1][i], w, m);
+        s.b[i][at] = inner(s.b[i], w, m);
+        s.t[i][at] = inner(s.t[i], w, m);
     }
     s
 }
@@ -91,12 +96,12 @@ fn add_rows(mut s: State, c: Row, at: usize, n: usize, m: Modulus) -> State
     requires { (n ≤ order_limit) × (at < n) × Fields m.p n s }
     ensures { Fields m.p n result × OnRows (modulo m.p) n (vector m.p n c) (delta (modulo m.p) at) (frame m.p n s) (frame m.p n result) }
 {
-    let x = s[0][at];
-    let y = s[2][at];
+    let x = s.b[at];
+    let y = s.back[at];
     for i in 0..n {
         if c[i] != 0 {
-            s[0][i] = add_multiple(s[0][i], c[i], x, m);
-            s[2][i] = add_multiple(s[2][i], c[i], y, m);
+            s.b[i] = add_multiple(s.b[i], c[i], x, m);
+            s.back[i] = add_multiple(s.back[i], c[i], y, m);
         }
     }
     s
@@ -108,8 +113,8 @@ pub fn add_columns(mut s: State, a: usize, v: Row, n: usize, m: Modulus) -> Stat
     ensures { Fields m.p n result × OnColumns (modulo m.p) n (delta (modulo m.p) a) (vector m.p n v) (frame m.p n s) (frame m.p n result) }
 {
     for i in 0..n {
-        s[0][i] = plus_multiple_row(s[0][i], s[0][i][a], v, m);
-        s[1][i] = plus_multiple_row(s[1][i], s[1][i][a], v, m);
+        s.b[i] = plus_multiple_row(s.b[i], s.b[i][a], v, m);
+        s.t[i] = plus_multiple_row(s.t[i], s.t[i][a], v, m);
     }
     s
 }
