@@ -8,6 +8,7 @@ ghost use Rattle.matrices.specs.Products.{product_row, Multiplied};
 ghost use Rattle.matrices.specs.Rows.{unit_row, IsIdentity};
 
 use forms::ORDER;
+use residues::modulus::Modulus;
 
 pub mod loading; // a matrix from its bytes
 
@@ -15,44 +16,53 @@ pub type Row = [u8; ORDER];
 
 pub type Mat = [Row; ORDER];
 
-pub fn wide(x: u8) -> u32
-    ensures { (result ≡ x) × (result ≤ 255) }
-{
-    u32::from(x)
+// How many rows and columns of a matrix are in use, at most ORDER; the others are zero.
+#[derive(Clone, Copy)]
+pub struct Order {
+    pub n: usize,
+    pub ghost limited: { n ≤ order_limit },
+}
+
+impl Order {
+    // The order n.
+    pub fn new(n: usize) -> Order
+        requires { n ≤ order_limit }
+        ensures { result.n ≡ n }
+    {
+        Order { n }
+    }
 }
 
 // Row v times column j of b.
-fn inner_product(v: Row, b: &Mat, j: usize, n: usize, p: u8) -> u8
-    requires { (n ≤ order_limit) × (j < order_limit) × (0 < p) }
-    ensures { result ≡ total n (λ k. get_or v k 0 * cell b.now k j) % p }
+fn inner_product(v: Row, b: &Mat, j: usize, order: Order, m: Modulus) -> u8
+    requires { j < order_limit }
+    ensures { result ≡ total order.n (λ k. get_or v k 0 * cell b.now k j) % m.p }
 {
     let mut sum = 0;
-    for k in 0..n {
+    for k in 0..order.n {
         sum += u32::from(v[k]) * u32::from(b[k][j]);
     }
-    (sum % u32::from(p)) as u8
+    m.remainder(sum)
 }
 
 // Row v times b.
-fn product_row(v: Row, b: &Mat, n: usize, p: u8) -> Row
-    requires { (n ≤ order_limit) × (0 < p) }
-    ensures { result ≡ product_row p n v b.now }
+fn product_row(v: Row, b: &Mat, order: Order, m: Modulus) -> Row
+    ensures { result ≡ product_row m.p order.n v b.now }
 {
     let mut r = [0u8; ORDER];
-    for j in 0..n {
-        r[j] = inner_product(v, b, j, n, p);
+    for j in 0..order.n {
+        r[j] = inner_product(v, b, j, order, m);
     }
     r
 }
 
 // a b
-pub fn product(a: Mat, b: Mat, n: usize, p: u8) -> Mat
-    requires { (n ≤ order_limit) × (0 < p) }
-    ensures { Multiplied p n a b result }
+pub fn product(a: Mat, b: Mat, order: Order, m: Modulus) -> Mat
+    ensures { Multiplied m.p order.n a b result }
 {
     let mut r = [[0u8; ORDER]; ORDER];
-    for i in 0..n {
-        r[i] = product_row(a[i], &b, n, p);
+    for i in 0..order.n {
+        r[i] = product_row(a[i], &b, order, m);
     }
     r
 }
@@ -68,12 +78,11 @@ pub fn unit_row(i: usize) -> Row
 }
 
 // E
-pub fn identity(n: usize) -> Mat
-    requires { n ≤ order_limit }
-    ensures { IsIdentity n result }
+pub fn identity(order: Order) -> Mat
+    ensures { IsIdentity order.n result }
 {
     let mut e = [[0u8; ORDER]; ORDER];
-    for i in 0..n {
+    for i in 0..order.n {
         e[i] = unit_row(i);
     }
     e

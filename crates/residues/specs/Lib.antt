@@ -1,3 +1,4 @@
+pub mod Remainders
 pub mod Primes
 pub mod Table
 pub mod Euclid

@@ -3,6 +3,7 @@ ghost use Rattle.std.specs.Prelude.{◌≡◌, ◌+◌, ◌*◌, ◌%◌, ◌<�
 ghost use Rattle.forms.specs.Numbers.{prime};
 ghost use Rattle.forms.specs.Reciprocals.{InverseOf, Reciprocates};
 
+use crate::modulus::Modulus;
 use crate::table::RECIPROCALS;
 use forms::{Reason, Refusal};
 
@@ -21,11 +22,10 @@ pub fn is_prime(p: u64) -> bool
 }
 
 // x + k y modulo p, for any bytes
-pub fn plus_multiple(x: u8, k: u8, y: u8, p: u8) -> u8
-    requires { 0 < p }
-    ensures { result ≡ (x + k * y) % p }
+pub fn plus_multiple(x: u8, k: u8, y: u8, m: Modulus) -> u8
+    ensures { result ≡ (x + k * y) % m.p }
 {
-    ((u32::from(x) + u32::from(k) * u32::from(y)) % u32::from(p)) as u8
+    m.remainder(u32::from(x) + u32::from(k) * u32::from(y))
 }
 
 // Euclid's algorithm on p and x: the remainders a and b are s x and t x modulo p, until b is 1.

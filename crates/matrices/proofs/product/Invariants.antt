@@ -6,4 +6,4 @@ use Rattle.matrices.specs.Products.{product_row}
 use Rattle.matrices.proofs.product.Given as goal
 
 abbrev pub invariant-loop-i : goal.invariant-loop-i
-invariant-loop-i l = l.r ≡ filled l.i (λ i. product_row l.p l.n (get_or l.a i []) l.b) zero_rows
+invariant-loop-i l = l.r ≡ filled l.i (λ i. product_row l.m.p l.order.n (get_or l.a i []) l.b) zero_rows

@@ -6,4 +6,4 @@ use Rattle.matrices.specs.Matrices.{cell, zero_row}
 use Rattle.matrices.proofs.product_row.Given as goal
 
 abbrev pub invariant-loop-j : goal.invariant-loop-j
-invariant-loop-j l = l.r ≡ filled l.j (λ j. total l.n (λ k. get_or l.v k 0 * cell l.b k j) % l.p) zero_row
+invariant-loop-j l = l.r ≡ filled l.j (λ j. total l.order.n (λ k. get_or l.v k 0 * cell l.b k j) % l.m.p) zero_row

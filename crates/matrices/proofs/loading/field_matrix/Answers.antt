@@ -1,6 +1,6 @@
 -- The rows are filled from the front.
 use Rattle.std.proofs.Common.{rules}
-use Rattle.matrices.specs.Filling.{fill_start, fill_turn, fill_end}
+use Rattle.matrices.specs.Filling.{fill_start, fill_turn}
 use Rattle.matrices.proofs.loading.field_matrix.Goals as goal
 
 pub loop-i-init : goal.loop-i-init

@@ -1,6 +1,6 @@
 -- The row is filled from the front.
 use Rattle.std.proofs.Common.{rules}
-use Rattle.matrices.specs.Filling.{fill_start, fill_turn, fill_end}
+use Rattle.matrices.specs.Filling.{fill_start, fill_turn}
 use Rattle.matrices.proofs.loading.field_row.Goals as goal
 
 pub loop-j-init : goal.loop-j-init

@@ -6,4 +6,4 @@ use Rattle.matrices.specs.Matrices.{zero_row}
 use Rattle.matrices.proofs.loading.field_row.Given as goal
 
 abbrev pub invariant-loop-j : goal.invariant-loop-j
-invariant-loop-j l = l.row ≡ filled l.j (λ j. at l.bytes (l.i * l.n + j)) zero_row
+invariant-loop-j l = l.row ≡ filled l.j (λ j. at l.bytes (l.i * l.order.n + j)) zero_row
