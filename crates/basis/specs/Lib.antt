@@ -3,7 +3,6 @@ pub mod Frame
 pub mod Entries
 pub mod Shear
 pub mod Replace
-pub mod Remainders
 pub mod State
 pub mod Overwriting
 pub mod Steps

@@ -39,9 +39,6 @@ pub record Given (p n k : ℕ) (s : State) : Type 0 where
   pub prime_p : T (prime p)
   pub fields : Fields p n s
 
-pub prime_positive : (p : ℕ) → T (prime p) → 0 < p
-prime_positive p h = omega (arith, (prime_means p h).large)
-
 pub prime_distinct : (p : ℕ) → T (prime p) → (modulo p).one ≢ (modulo p).zero
 prime_distinct p h = one_is_not_zero p (prime_means p h)
 

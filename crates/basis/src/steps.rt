@@ -11,10 +11,10 @@ ghost use Rattle.basis.specs.State.{frame, Fields, Given};
 ghost use Rattle.basis.specs.Steps.{entry_of, Combination};
 ghost use Rattle.basis.specs.Searches.{column_of, Found};
 
-use crate::remainders::Modulus;
 use forms::ORDER;
-use matrices::{Mat, Row, unit_row};
-use residues::residue::reciprocal_of;
+use matrices::{Mat, Order, Row, unit_row};
+use residues::modulus::Modulus;
+use residues::residue::{plus_multiple, reciprocal_of};
 
 // A in another basis: B, T and the inverse of T, with A T = T B.
 #[derive(Clone, Copy)]
@@ -41,7 +41,7 @@ pub fn add_multiple(x: Row, k: u8, y: Row, m: Modulus) -> Row
 {
     let mut r = [0; ORDER];
     for j in 0..ORDER {
-        r[j] = m.remainder(u32::from(x[j]) + u32::from(k) * u32::from(y[j]));
+        r[j] = plus_multiple(x[j], k, y[j], m);
     }
     r
 }
@@ -58,12 +58,12 @@ fn plus_multiple_row(x: Row, k: u8, y: Row, m: Modulus) -> Row
 }
 
 // v x; rows for which v has 0 are passed over.
-pub fn combination(v: Row, x: Mat, n: usize, m: Modulus) -> Row
-    requires { (n ≤ order_limit) × FieldMatrix m.p n x }
-    ensures { Combination m.p n v x result }
+pub fn combination(v: Row, x: Mat, order: Order, m: Modulus) -> Row
+    requires { FieldMatrix m.p order.n x }
+    ensures { Combination m.p order.n v x result }
 {
     let mut r = [0; ORDER];
-    for i in 0..n {
+    for i in 0..order.n {
         let sum = plus_multiple_row(r, v[i], x[i], m);
         r = sum;
     }
@@ -80,11 +80,11 @@ pub fn with_entry(mut x: Row, at: usize, v: u8) -> Row
 }
 
 // Column `at` of B and of T becomes B w and T w.
-fn set_columns(mut s: State, at: usize, w: Row, n: usize, m: Modulus) -> State
-    requires { (n ≤ order_limit) × (at < n) × Fields m.p n s }
-    ensures { Fields m.p n result × OnColumns (modulo m.p) n (added (modulo m.p) at (vector m.p n w)) (delta (modulo m.p) at) (frame m.p n s) (frame m.p n result) }
+fn set_columns(mut s: State, at: usize, w: Row, order: Order, m: Modulus) -> State
+    requires { (at < order.n) × Fields m.p order.n s }
+    ensures { Fields m.p order.n result × OnColumns (modulo m.p) order.n (added (modulo m.p) at (vector m.p order.n w)) (delta (modulo m.p) at) (frame m.p order.n s) (frame m.p order.n result) }
 {
-    for i in 0..n {
+    for i in 0..order.n {
         s.b[i][at] = inner(s.b[i], w, m);
         s.t[i][at] = inner(s.t[i], w, m);
     }
@@ -92,13 +92,13 @@ fn set_columns(mut s: State, at: usize, w: Row, n: usize, m: Modulus) -> State
 }
 
 // Row `at` of B and of the inverse of T is added to each row, as often as c says; rows for which c has 0 stay as they are.
-fn add_rows(mut s: State, c: Row, at: usize, n: usize, m: Modulus) -> State
-    requires { (n ≤ order_limit) × (at < n) × Fields m.p n s }
-    ensures { Fields m.p n result × OnRows (modulo m.p) n (vector m.p n c) (delta (modulo m.p) at) (frame m.p n s) (frame m.p n result) }
+fn add_rows(mut s: State, c: Row, at: usize, order: Order, m: Modulus) -> State
+    requires { (at < order.n) × Fields m.p order.n s }
+    ensures { Fields m.p order.n result × OnRows (modulo m.p) order.n (vector m.p order.n c) (delta (modulo m.p) at) (frame m.p order.n s) (frame m.p order.n result) }
 {
     let x = s.b[at];
     let y = s.back[at];
-    for i in 0..n {
+    for i in 0..order.n {
         if c[i] != 0 {
             s.b[i] = add_multiple(s.b[i], c[i], x, m);
             s.back[i] = add_multiple(s.back[i], c[i], y, m);
@@ -108,11 +108,11 @@ fn add_rows(mut s: State, c: Row, at: usize, n: usize, m: Modulus) -> State
 }
 
 // Column a of B and of T is added to each column, as often as v says.
-pub fn add_columns(mut s: State, a: usize, v: Row, n: usize, m: Modulus) -> State
-    requires { (n ≤ order_limit) × (a < n) × Fields m.p n s × FieldRow m.p n v }
-    ensures { Fields m.p n result × OnColumns (modulo m.p) n (delta (modulo m.p) a) (vector m.p n v) (frame m.p n s) (frame m.p n result) }
+pub fn add_columns(mut s: State, a: usize, v: Row, order: Order, m: Modulus) -> State
+    requires { (a < order.n) × Fields m.p order.n s × FieldRow m.p order.n v }
+    ensures { Fields m.p order.n result × OnColumns (modulo m.p) order.n (delta (modulo m.p) a) (vector m.p order.n v) (frame m.p order.n s) (frame m.p order.n result) }
 {
-    for i in 0..n {
+    for i in 0..order.n {
         s.b[i] = plus_multiple_row(s.b[i], s.b[i][a], v, m);
         s.t[i] = plus_multiple_row(s.t[i], s.t[i][a], v, m);
     }
@@ -120,23 +120,23 @@ pub fn add_columns(mut s: State, a: usize, v: Row, n: usize, m: Modulus) -> Stat
 }
 
 // The basis vector e_at is replaced by w.
-pub fn replace(s: State, at: usize, w: Row, n: usize, m: Modulus) -> State
-    requires { Given m.p n n s × (at < n) × FieldRow m.p n w × (get_or w at 0 ≢ 0) }
-    ensures { Fields m.p n result × Replaced (modulo m.p) n at (vector m.p n w) (frame m.p n s) (frame m.p n result) }
+pub fn replace(s: State, at: usize, w: Row, order: Order, m: Modulus) -> State
+    requires { Given m.p order.n order.n s × (at < order.n) × FieldRow m.p order.n w × (get_or w at 0 ≢ 0) }
+    ensures { Fields m.p order.n result × Replaced (modulo m.p) order.n at (vector m.p order.n w) (frame m.p order.n s) (frame m.p order.n result) }
 {
     let d = reciprocal_of(w[at], m.p);
     let v = add_multiple([0; ORDER], m.p - d, w, m);
     let c = add_multiple(v, d, unit_row(at), m);
-    add_rows(set_columns(s, at, w, n, m), c, at, n, m)
+    add_rows(set_columns(s, at, w, order, m), c, at, order, m)
 }
 
 // Column j.
-pub fn column(b: &Mat, j: usize, n: usize) -> Row
-    requires { (n ≤ order_limit) × (j < order_limit) }
-    ensures { result ≡ column_of n b.now j }
+pub fn column(b: &Mat, j: usize, order: Order) -> Row
+    requires { j < order_limit }
+    ensures { result ≡ column_of order.n b.now j }
 {
     let mut r = [0; ORDER];
-    for i in 0..n {
+    for i in 0..order.n {
         r[i] = b[i][j];
     }
     r

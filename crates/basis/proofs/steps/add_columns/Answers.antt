@@ -11,12 +11,12 @@ loop-i-init c = (overwriting_start _ _, overwriting_start _ _, refl)
 pub plus_multiple_row-requires : goal.plus_multiple_row-requires
 plus_multiple_row-requires c =
     let l = c.loop-i in
-    next_field _ (squares c.args.s c.well_formed.0.1.1).B _ l.i (search rules) l.s.b l.invariant.0 _ _ (search rules) (search rules) (search rules) c.requires.2.B
+    next_field _ (squares c.args.s c.well_formed.0.1.1).B _ l.i (search rules) l.s.b l.invariant.0 _ _ (search rules) (search rules) (search rules) c.requires.1.B
 
 pub plus_multiple_row-requires-in-loop-i : goal.plus_multiple_row-requires-in-loop-i
 plus_multiple_row-requires-in-loop-i c =
     let l = c.loop-i in
-    next_field _ (squares c.args.s c.well_formed.0.1.1).T _ l.i (search rules) l.s.t l.invariant.1 _ _ (search rules) (search rules) (search rules) c.requires.2.T
+    next_field _ (squares c.args.s c.well_formed.0.1.1).T _ l.i (search rules) l.s.t l.invariant.1 _ _ (search rules) (search rules) (search rules) c.requires.1.T
 
 pub loop-i-preserved : goal.loop-i-preserved
 loop-i-preserved c =
@@ -25,4 +25,4 @@ loop-i-preserved c =
     (overwriting_turn _ shape.B _ l.i (search rules) l.s.b l.invariant.0 _ c.plus_multiple_row.ensures, overwriting_turn _ shape.T _ l.i (search rules) l.s.t l.invariant.1 _ c.plus_multiple_row-in-loop-i.ensures, l.invariant.2)
 
 pub returns : goal.returns
-returns c = columns_added _ _ c.args.s c.loop-i.s (search rules) (search rules) c.requires.2 _ _ (search rules) c.requires.3 (rw (le_antisymm c.loop-i.auto.i-end c.loop-i-test.false) at c.loop-i.invariant)
+returns c = columns_added _ _ c.args.s c.loop-i.s (search rules) (search rules) c.requires.1 _ _ (search rules) c.requires.2 (rw (le_antisymm c.loop-i.auto.i-end c.loop-i-test.false) at c.loop-i.invariant)

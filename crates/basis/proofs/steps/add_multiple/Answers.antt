@@ -1,5 +1,5 @@
--- The row is filled with remainders; each sum of a byte and a product of two is below 2^24.
-use Rattle.std.proofs.Common.{rules, ◌∙◌}
+-- The row is filled with the sums of the entries.
+use Rattle.std.proofs.Common.{rules}
 use Rattle.matrices.specs.Filling.{fill_start, fill_turn}
 use Rattle.basis.proofs.steps.add_multiple.Goals as goal
 
@@ -7,4 +7,4 @@ pub loop-j-init : goal.loop-j-init
 loop-j-init c = fill_start _ _
 
 pub loop-j-preserved : goal.loop-j-preserved
-loop-j-preserved c = fill_turn _ _ _ (search rules) c.loop-j.invariant (c.remainder.ensures ∙ rw (c.from.ensures, c.from-in-loop-j.ensures, c.from-in-loop-j-2.ensures))
+loop-j-preserved c = fill_turn _ _ _ (search rules) c.loop-j.invariant c.plus_multiple.ensures

@@ -1,4 +1,4 @@
--- The row is filled with remainders; each sum of a byte and a product of two is below 2^24.
+-- The row is filled with the sums of the entries.
 use Rattle.std.proofs.Common.{◌+◌, ◌*◌, ◌%◌, ◌≡◌, get_or}
 use Rattle.matrices.specs.Filling.{filled}
 use Rattle.matrices.specs.Matrices.{zero_row}

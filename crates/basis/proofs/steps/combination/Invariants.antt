@@ -3,4 +3,4 @@ use Rattle.basis.specs.Steps.{Combining}
 use Rattle.basis.proofs.steps.combination.Given as goal
 
 abbrev pub invariant-loop-i : goal.invariant-loop-i
-invariant-loop-i l = Combining l.m.p l.n l.i l.v l.x l.r
+invariant-loop-i l = Combining l.m.p l.fn.order.n l.i l.v l.x l.r

@@ -19,4 +19,4 @@ loop-i-preserved c =
 
 pub returns : goal.returns
 returns c =
-    columns_set _ _ c.args.s c.loop-i.s (search rules) (search rules) c.requires.2 _ _ (search rules) (squares c.args.s c.well_formed.0.1.1) (rw (le_antisymm c.loop-i.auto.i-end c.loop-i-test.false) at c.loop-i.invariant)
+    columns_set _ _ c.args.s c.loop-i.s (search rules) (search rules) c.requires.1 _ _ (search rules) (squares c.args.s c.well_formed.0.1.1) (rw (le_antisymm c.loop-i.auto.i-end c.loop-i-test.false) at c.loop-i.invariant)
