@@ -18,7 +18,7 @@ use Rattle.ordering.specs.Reordering.{Reordered}
 use Rattle.ordering.specs.Rotation.{rotation, rotated_change}
 use Rattle.splitting.specs.Pass.{Ready, ready_first, Chained}
 use Rattle.splitting.specs.Settle.{Headed, Wiped, wiped_none, Cleared, clear_turn, cleared_headed, Settled, headed_flat, settled_same, settled_longer, chained_headed}
-use Rattle.splitting.specs.Probe.{Joined, joined_ready, joined_headed, Probing, Probed, probe_start, probing_of_settled, probe_skip, probe_longer, probe_turn, probe_end, probed_of_settled, probed_then, Split, split_of_probed}
+use Rattle.splitting.specs.Probe.{Joined, joined_ready, joined_headed, Probing, Probed, probe_start, probing_of_settled, probe_skip, probe_longer, probe_turn, probed_of_settled, probed_then, Split, split_of_probed}
 use Rattle.basis.specs.State.{State, frame, frame_within, Given, prime_positive, prime_distinct, zero_entry, entry_nonzero, field_row}
 use Rattle.basis.specs.Steps.{opposite_unit}
 use Rattle.basis.specs.Changes.{spread}
@@ -143,9 +143,6 @@ module _ (p n k m j : ℕ) (s t u : State) (g : Given p n k u) (mj : m ≤ j) (j
 
   pub probe_goes_on : r ≤ m → Probing (modulo p) n k m (j + 1) (frame p n s) (frame p n u)
   probe_goes_on l = rw (add-one j) (probe_turn (modulo p) n k m j (frame p n s) (frame p n t) (frame p n u) g.fits mj jk (frame_within p n t) x y (omega (arith, length_is)))
-
-pub probe_ends : (p n k m j : ℕ) (s t : State) → k ≤ n → k ≤ j → j ≤ k → Probing (modulo p) n k m j (frame p n s) (frame p n t) → Probed (modulo p) n k m (frame p n s) m (frame p n t)
-probe_ends p n k m j s t kn a b x = probe_end (modulo p) n k m (frame p n s) (frame p n t) kn (let e : j ≡ k = omega arith in subst (λ (q : ℕ). Probing (modulo p) n k m q (frame p n s) (frame p n t)) e x)
 
 -- nothing is left behind the block, as a test says
 pub settled_already : (p n k m : ℕ) (c : State) → Given p n k c → Headed (modulo p) k m (frame p n c) → NothingBehind m k (get_or c 0 []) → Probing (modulo p) n k m m (frame p n c) (frame p n c)

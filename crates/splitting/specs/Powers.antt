@@ -31,9 +31,13 @@ pub record Powered (p n m j : ℕ) (b : Array) (e : ℕ) (g v : List ℕ) : Type
   pub power_is : vector p n g ≡ apply (modulo p) n (power (modulo p) n (matrix p n b) e) (delta (modulo p) j)
   pub sum_is : (i : ℕ) → vector p n v i ≡ sum (modulo p) (λ k. (modulo p).times (matrix p n b k (m - 1)) (apply (modulo p) n (power (modulo p) n (matrix p n b) k) (delta (modulo p) j) i)) e
 
+-- the polynomial of the block of m kills e_j
+abbrev pub KillsUnit : (p n m : ℕ) → Array → ℕ → Type 0
+KillsUnit p n m b j = Kills (modulo p) n (matrix p n b) (corner (modulo p) m (matrix p n b)) (delta (modulo p) j)
+
 -- where the answer is yes, the polynomial of the block of m kills e_j
 pub record KilledTest (p n m j : ℕ) (b : Array) (r : Bool) : Type 0 where
-  pub kills : r ≡ true → Kills (modulo p) n (matrix p n b) (corner (modulo p) m (matrix p n b)) (delta (modulo p) j)
+  pub kills : r ≡ true → KillsUnit p n m b j
 
 module _ (p n m j : ℕ) (b : Array) (h : 0 < p) (o : n ≤ order_limit) (l : j < n) where
   -- B e_j is column j, and the combination of the one power before it has one entry
@@ -52,6 +56,6 @@ module _ (p n m j : ℕ) (b : Array) (h : 0 < p) (o : n ≤ order_limit) (l : j 
         ∙ ap₂ (modulo p).plus (x.sum_is i) (ap₂ (modulo p).times (sym (matrix_inside p n b e (m - 1) en mn)) (ap (λ (w : Vector (modulo p)). w i) x.power_is)) ∙ sym (sum_suc (modulo p) _ e);
   })
 
-  pub powered_kills : (g v : List ℕ) → Powered p n m j b m g v → ((i : ℕ) → i < n → get_or g i 0 ≡ get_or v i 0) → Kills (modulo p) n (matrix p n b) (corner (modulo p) m (matrix p n b)) (delta (modulo p) j)
+  pub powered_kills : (g v : List ℕ) → Powered p n m j b m g v → ((i : ℕ) → i < n → get_or g i 0 ≡ get_or v i 0) → KillsUnit p n m b j
   powered_kills g v x e = kills_by_powers (modulo p) n m (matrix p n b) (λ i. matrix p n b i (m - 1)) (delta (modulo p) j) (matrix_within p n b) (unit_upto (modulo p) n (matrix p n b) j l) (λ i.
       ap (λ (w : Vector (modulo p)). w i) (sym x.power_is ∙ vector_equal (modulo p) n _ _ (vector_upto p n g) (vector_upto p n v) (λ i l. vector_inside p n g i l ∙ ap (residue p) (e i l) ∙ sym (vector_inside p n v i l))) ∙ x.sum_is i)

@@ -1,11 +1,9 @@
 -- What the tests of a window read off the matrix: that nothing is left behind the block of m, and how far its polynomial kills the basis vectors.
 use Rattle.std.specs.Prelude.{◌≡◌, ℕ, ◌≤◌, ◌<◌, Option, Some, None, MatchOption}
 use Rattle.std.proofs.Common.{arith}
-use Rattle.algebra.specs.Sum.{delta}
-use Rattle.algebra.specs.Modular.{modulo}
-use Rattle.matrices.specs.Matrices.{cell, matrix}
+use Rattle.matrices.specs.Matrices.{cell}
 use Rattle.basis.specs.State.{Array}
-use Rattle.splitting.specs.Killing.{corner, Kills}
+use Rattle.splitting.specs.Powers.{KillsUnit}
 
 -- row i has nothing in the columns m .. k - 1
 abbrev pub NothingInRow : (m k : ℕ) → Array → ℕ → Type 0
@@ -14,10 +12,6 @@ NothingInRow m k b i = (t : ℕ) → m ≤ t → t < k → cell b i t ≡ 0
 -- rows 0 .. m - 1 have nothing in the columns m .. k - 1
 abbrev pub NothingBehind : (m k : ℕ) → Array → Type 0
 NothingBehind m k b = (i : ℕ) → i < m → NothingInRow m k b i
-
--- the polynomial of the block of m kills e_t
-abbrev pub KillsUnit : (p n m : ℕ) → Array → ℕ → Type 0
-KillsUnit p n m b t = Kills (modulo p) n (matrix p n b) (corner (modulo p) m (matrix p n b)) (delta (modulo p) t)
 
 -- e_r is in the window [0,k), or r is k, and e_from .. e_(r-1) are killed
 pub record FirstUnkilled (p n m from k : ℕ) (b : Array) (r : ℕ) : Type 0 where

@@ -1,7 +1,6 @@
 // The block at the head of the window grows until its polynomial kills the window.
-ghost use Rattle.std.specs.Prelude.{◌≡◌, true, [], ℕ, ◌+◌, ◌-◌, ◌%◌, ◌≤◌, ◌<◌, get_or};
+ghost use Rattle.std.specs.Prelude.{◌≡◌, true, [], ℕ, ◌+◌, ◌≤◌, ◌<◌, get_or};
 ghost use Rattle.forms.specs.Numbers.{order_limit};
-ghost use Rattle.algebra.specs.Choice.{below};
 ghost use Rattle.algebra.specs.Modular.{modulo};
 ghost use Rattle.matrices.specs.Matrices.{matrix, FieldRow, FieldMatrix};
 ghost use Rattle.basis.specs.Frame.{Window};
@@ -95,6 +94,7 @@ fn apply(b: &Mat, g: Row, n: usize, modulus: Modulus) -> Row
     r
 }
 
+// Whether the first n entries of x and y are the same.
 pub fn same_row(x: Row, y: Row, n: usize) -> bool
     requires { n ≤ order_limit }
     ensures { result ≡ true → (i : ℕ) → i < n → get_or x i 0 ≡ get_or y i 0 }

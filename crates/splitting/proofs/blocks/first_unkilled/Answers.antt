@@ -2,7 +2,8 @@
 use Rattle.std.proofs.Common.{rules}
 use borrow.Author.Tests.{tests}
 use Rattle.std.proofs.lemmas.Iterator.{first_from_Range}
-use Rattle.splitting.specs.Tests.{KillsUnit, unkilled_in_range}
+use Rattle.splitting.specs.Powers.{KillsUnit}
+use Rattle.splitting.specs.Tests.{unkilled_in_range}
 use Rattle.splitting.proofs.blocks.first_unkilled.Goals as goal
 
 pub returns : goal.returns
