@@ -1,11 +1,12 @@
 -- What the elimination delivers: B = F, T and the inverse of T as field matrices, A T = T F, and F the block diagonal of companion blocks, each
 -- polynomial dividing the next.
-use Rattle.std.specs.Prelude.{List, [], ℕ, ◌-◌, ◌≤◌, get_or}
+use Rattle.std.specs.Prelude.{List, ℕ, ◌-◌, ◌≤◌}
 use Rattle.algebra.specs.Matrix.{Matrix}
 use Rattle.algebra.specs.Modular.{modulo}
 use Rattle.matrices.specs.Matrices.{matrix}
 use Rattle.basis.specs.Frame.{In}
-use Rattle.basis.specs.State.{Array, State, frame, frame_within, Fields}
+use Rattle.basis.specs.declared.steps.State.{State}
+use Rattle.basis.specs.State.{Array, frame, frame_within, Fields}
 use Rattle.ordering.specs.Rotation.{rotation}
 use Rattle.ordering.specs.Orders.{InOrder}
 use Rattle.splitting.specs.Probe.{Split}
@@ -15,7 +16,7 @@ pub record Reduced (p n : ℕ) (a : Array) (s : State) : Type 0 where
   pub fields : Fields p n s
   pub basis : In (modulo p) n (matrix p n a) (frame p n s)
   pub blocks : List (Block (modulo p))
-  pub form : Form (modulo p) n (matrix p n (get_or s 0 [])) 0 blocks
+  pub form : Form (modulo p) n (matrix p n s.b) 0 blocks
 
 pub reduced : (p n : ℕ) (a : Array) (s : State) → Fields p n s → Stage (modulo p) n 0 (matrix p n a) (frame p n s) → Reduced p n a s
 reduced p n a s f x = record { fields = f; basis = x.basis; blocks = x.blocks; form = x.form }

@@ -5,11 +5,11 @@ ghost use Rattle.matrices.specs.Matrices.{FieldMatrix};
 ghost use Rattle.elimination.specs.Reduced.{Reduced};
 ghost use Rattle.elimination.specs.Scalar.{ScalarWindow};
 
-use basis::remainders::Modulus;
 use basis::steps::{State, with_entry};
 use forms::ORDER;
-use matrices::{Mat, identity};
+use matrices::{Mat, Order, identity};
 use ordering::turning::rotate;
+use residues::modulus::Modulus;
 use splitting::blocks::{same_row, split};
 use splitting::passes::reach;
 
@@ -23,23 +23,26 @@ fn is_scalar(b: &Mat, k: usize) -> bool
 }
 
 // F, T and the inverse of T, with A T = T F and F the companion blocks of f_1 | f_2 | ..
-pub fn reduce(a: Mat, n: usize, p: u8) -> State
-    requires { (n ≤ order_limit) × T (prime p) × FieldMatrix p n a }
-    ensures { Reduced p n a result }
+pub fn reduce(a: Mat, order: Order, m: Modulus) -> State
+    requires { T (prime m.p) × FieldMatrix m.p order.n a }
+    ensures { Reduced m.p order.n a result }
 {
-    let modulus = Modulus::new(p);
-    let e = identity(n);
-    let mut s = [a, e, e];
-    let mut k = n;
+    let e = identity(order);
+    let mut s = State {
+        b: a,
+        t: e,
+        back: e,
+    };
+    let mut k = order.n;
     while k > 0 {
-        if is_scalar(&s[0], k) {
+        if is_scalar(&s.b, k) {
             return s;
         }
-        let c = split(s, k, n, modulus);
-        let m = reach(&c[0], k);
-        let next = rotate(c, m, k, n);
+        let c = split(s, k, order, m);
+        let length = reach(&c.b, k);
+        let next = rotate(c, length, k, order);
         s = next;
-        k -= m;
+        k -= length;
     }
     s
 }

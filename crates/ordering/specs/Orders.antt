@@ -9,7 +9,8 @@ use Rattle.matrices.specs.Matrices.{cell, matrix, matrix_inside, FieldRow, Field
 use Rattle.ordering.specs.Exchange.{exchange, exchange_other, exchange_below, swap_at}
 use Rattle.basis.specs.Overwriting.{overwritten_cell, overwritten_field}
 use Rattle.ordering.specs.Reordering.{Reordered}
-use Rattle.basis.specs.State.{Array, State, frame, Fields}
+use Rattle.basis.specs.declared.steps.State.{State}
+use Rattle.basis.specs.State.{Array, frame, Fields}
 
 -- r has the rows of x in the order ρ, and the columns in the order σ
 pub record Moved (n : ℕ) (ρ σ : ℕ → ℕ) (x r : Array) : Type 0 where
@@ -35,12 +36,12 @@ module _ (n : ℕ) (σ : ℕ → ℕ) (inside : (i : ℕ) → i < n → σ i < n
   pub columns_then_rows : (x c r : Array) → ColumnsIn n σ x c → RowsIn n σ c r → Moved n σ σ x r
   columns_then_rows x c r a b = record { cells = λ i j l g. b.cells i j l g ∙ a.cells (σ i) j (inside i l) g; field = λ p f. b.field p (a.field p f) }
 
-  pub in_order : (s r : State) → Moved n σ σ (get_or s 0 []) (get_or r 0 []) → ColumnsIn n σ (get_or s 1 []) (get_or r 1 []) → RowsIn n σ (get_or s 2 []) (get_or r 2 []) → InOrder n σ s r
+  pub in_order : (s r : State) → Moved n σ σ s.b r.b → ColumnsIn n σ s.t r.t → RowsIn n σ s.back r.back → InOrder n σ s r
   in_order s r b t i = record {
     reordered = λ p. record {
-      B = moved_entry n σ σ inside inside p (get_or s 0 []) (get_or r 0 []) b;
-      T = moved_entry n (λ i. i) σ (λ i l. l) inside p (get_or s 1 []) (get_or r 1 []) t;
-      I = moved_entry n σ (λ i. i) inside (λ i l. l) p (get_or s 2 []) (get_or r 2 []) i;
+      B = moved_entry n σ σ inside inside p s.b r.b b;
+      T = moved_entry n (λ i. i) σ (λ i l. l) inside p s.t r.t t;
+      I = moved_entry n σ (λ i. i) inside (λ i l. l) p s.back r.back i;
     };
     fields = λ p h. record { B = b.field p h.B; T = t.field p h.T; I = i.field p h.I };
   }

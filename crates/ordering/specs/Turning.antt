@@ -1,12 +1,13 @@
 -- The state turned by a table of places: the rows of the three matrices are overwritten from the front.
-use Rattle.std.specs.Prelude.{◌≡◌, refl, List, [], ℕ, ◌+◌, ◌≤◌, ◌<◌, length, get_or}
-use Rattle.std.proofs.Common.{sym, ◌∙◌, arith, length-set}
+use Rattle.std.specs.Prelude.{◌≡◌, refl, List, [], ℕ, ◌+◌, ◌≤◌, ◌<◌, get_or, set}
+use Rattle.std.proofs.Common.{sym, ◌∙◌, arith}
 use Rattle.std.proofs.Math.Decide.{dec_lt}
 use Rattle.forms.specs.Numbers.{order_limit}
 use Rattle.matrices.specs.Filling.{filled, fill_start, fill_turn, fill_end, filled_inside, filled_outside}
 use Rattle.matrices.specs.Matrices.{cell, FieldRow, zero_row, zero_row_at}
-use Rattle.basis.specs.Overwriting.{overwritten_cell, overwritten_field, row_set, row_set_same, row_set_other}
-use Rattle.basis.specs.State.{Array, State, field_row}
+use Rattle.basis.specs.Overwriting.{overwritten_cell, overwritten_field}
+use Rattle.basis.specs.declared.steps.State.{State}
+use Rattle.basis.specs.State.{Array, Squares, field_row}
 use Rattle.ordering.specs.Orders.{Moved, RowsIn, InOrder, in_order, in_order_equal}
 use Rattle.ordering.specs.Rotation.{rotation, rotation_high, rotation_none, rotation_inside}
 
@@ -39,29 +40,22 @@ picked q x = filled order_limit (λ j. get_or x (place q j) 0) zero_row
 
 -- r is the state s with the first t rows in that order: B's rows and their entries, the entries of T's rows, the inverse's rows
 pub record Turned (t : ℕ) (q : List ℕ) (s r : State) : Type 0 where
-  pub parts : length r ≡ length s
-  pub B : get_or r 0 [] ≡ filled t (λ i. picked q (get_or (get_or s 0 []) (place q i) [])) (get_or s 0 [])
-  pub T : get_or r 1 [] ≡ filled t (λ i. picked q (get_or (get_or s 1 []) i [])) (get_or s 1 [])
-  pub I : get_or r 2 [] ≡ filled t (λ i. get_or (get_or s 2 []) (place q i) []) (get_or s 2 [])
+  pub B : r.b ≡ filled t (λ i. picked q (get_or s.b (place q i) [])) s.b
+  pub T : r.t ≡ filled t (λ i. picked q (get_or s.t i [])) s.t
+  pub I : r.back ≡ filled t (λ i. get_or s.back (place q i) []) s.back
 
 pub turned_start : (q : List ℕ) (s : State) → Turned 0 q s s
-turned_start q s = record { parts = refl; B = fill_start _ _; T = fill_start _ _; I = fill_start _ _ }
+turned_start q s = record { B = fill_start _ _; T = fill_start _ _; I = fill_start _ _ }
 
 -- one turn of the loop
-pub turned_turn : (t : ℕ) (q : List ℕ) (s r : State) (u v w : List ℕ) → length s ≡ 3 → ((k : ℕ) → k < 3 → t < length (get_or s k [])) → Turned t q s r
-    → u ≡ picked q (get_or (get_or s 0 []) (place q t) []) → v ≡ picked q (get_or (get_or s 1 []) t []) → w ≡ get_or (get_or s 2 []) (place q t) []
-    → Turned (t + 1) q s (row_set (row_set (row_set r 0 t u) 1 t v) 2 t w)
-turned_turn t q s r u v w h l x eu ev ew =
-    let b = row_set r 0 t u in
-    let c = row_set b 1 t v in
-    let hb : length b ≡ length s = length-set r 0 _ ∙ x.parts in
-    let hc : length c ≡ length s = length-set b 1 _ ∙ hb in
-    record {
-      parts = length-set c 2 _ ∙ hc;
-      B = row_set_other c 2 t w 0 (omega arith) ∙ row_set_other b 1 t v 0 (omega arith) ∙ row_set_same r 0 t u (omega (arith, x.parts)) ∙ fill_turn _ t _ (l 0 (omega arith)) x.B eu;
-      T = row_set_other c 2 t w 1 (omega arith) ∙ row_set_same b 1 t v (omega arith) ∙ fill_turn _ t _ (l 1 (omega arith)) (row_set_other r 0 t u 1 (omega arith) ∙ x.T) ev;
-      I = row_set_same c 2 t w (omega arith) ∙ fill_turn _ t _ (l 2 (omega arith)) (row_set_other b 1 t v 2 (omega arith) ∙ row_set_other r 0 t u 2 (omega arith) ∙ x.I) ew;
-    }
+pub turned_turn : (t : ℕ) (q : List ℕ) (s r : State) (u v w : List ℕ) → Squares s → t < order_limit → Turned t q s r
+    → u ≡ picked q (get_or s.b (place q t) []) → v ≡ picked q (get_or s.t t []) → w ≡ get_or s.back (place q t) []
+    → Turned (t + 1) q s (record { b = set r.b t u; t = set r.t t v; back = set r.back t w })
+turned_turn t q s r u v w h l x eu ev ew = record {
+  B = fill_turn _ t _ (omega (arith, h.B.tall)) x.B eu;
+  T = fill_turn _ t _ (omega (arith, h.T.tall)) x.T ev;
+  I = fill_turn _ t _ (omega (arith, h.I.tall)) x.I ew;
+}
 
 -- a field matrix whose rows are overwritten so is one again
 module _ (n : ℕ) (h : n ≤ order_limit) (q : List ℕ) (o : Places n q) where
@@ -88,6 +82,6 @@ module _ (n : ℕ) (h : n ≤ order_limit) (q : List ℕ) (o : Places n q) where
 
   pub turned_end : (s r : State) {t : ℕ} → Turned t q s r → t ≤ n → n ≤ t → InOrder n (place q) s r
   turned_end s r x a b = in_order n (place q) o.inside s r
-      (picked_moved (place q) o.inside (get_or s 0 []) (get_or r 0 []) (fill_end _ _ x.B a b))
-      (picked_moved (λ i. i) (λ i l. l) (get_or s 1 []) (get_or r 1 []) (fill_end _ _ x.T a b))
-      (rows_moved (get_or s 2 []) (get_or r 2 []) (fill_end _ _ x.I a b))
+      (picked_moved (place q) o.inside s.b r.b (fill_end _ _ x.B a b))
+      (picked_moved (λ i. i) (λ i l. l) s.t r.t (fill_end _ _ x.T a b))
+      (rows_moved s.back r.back (fill_end _ _ x.I a b))

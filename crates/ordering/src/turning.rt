@@ -9,10 +9,10 @@ ghost use Rattle.ordering.specs.Turning.{Places, picked};
 
 use basis::steps::State;
 use forms::ORDER;
-use matrices::Row;
+use matrices::{Order, Row};
 
 // Which place goes to each place.
-type Order = [usize; ORDER];
+type Permutation = [usize; ORDER];
 
 // The place that goes to place i.
 fn turned(i: usize, m: usize, k: usize) -> usize
@@ -29,7 +29,7 @@ fn turned(i: usize, m: usize, k: usize) -> usize
 }
 
 // The table of the rotation.
-fn rotation_of(m: usize, k: usize) -> Order
+fn rotation_of(m: usize, k: usize) -> Permutation
     requires { (m ≤ k) × (k ≤ order_limit) }
     ensures { (result ≡ filled order_limit (rotation m k) zero_row) × Places order_limit result }
 {
@@ -41,7 +41,7 @@ fn rotation_of(m: usize, k: usize) -> Order
 }
 
 // A row's entries in the order of a table.
-fn turn_row(x: Row, q: Order) -> Row
+fn turn_row(x: Row, q: Permutation) -> Row
     requires { Places order_limit q }
     ensures { result ≡ picked q x }
 {
@@ -53,19 +53,19 @@ fn turn_row(x: Row, q: Order) -> Row
 }
 
 // The first m basis vectors of [0,k) go behind the others: B moves its rows and columns, T its columns, the inverse its rows.
-pub fn rotate(s: State, m: usize, k: usize, n: usize) -> State
-    requires { (n ≤ order_limit) × (m ≤ k) × (k ≤ n) }
-    ensures { InOrder n (rotation m k) s result }
+pub fn rotate(s: State, m: usize, k: usize, order: Order) -> State
+    requires { (m ≤ k) × (k ≤ order.n) }
+    ensures { InOrder order.n (rotation m k) s result }
 {
     if m == k {
         return s;
     }
     let q = rotation_of(m, k);
     let mut r = s;
-    for i in 0..n {
-        r[0][i] = turn_row(s[0][q[i]], q);
-        r[1][i] = turn_row(s[1][i], q);
-        r[2][i] = s[2][q[i]];
+    for i in 0..order.n {
+        r.b[i] = turn_row(s.b[q[i]], q);
+        r.t[i] = turn_row(s.t[i], q);
+        r.back[i] = s.back[q[i]];
     }
     r
 }

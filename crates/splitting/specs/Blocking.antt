@@ -8,7 +8,7 @@ use Rattle.algebra.specs.Ring.{zero_plus, plus_zero}
 use Rattle.algebra.specs.Sum.{delta, delta_same, delta_other}
 use Rattle.algebra.specs.Modular.{residue, modulo, residue_one}
 use Rattle.matrices.specs.Matrices.{cell, vector, matrix, vector_inside, vector_upto, matrix_inside, FieldRow, zero_row, zero_row_at}
-use Rattle.forms.specs.Primes.{prime_means}
+use Rattle.forms.specs.Primes.{prime_means, prime_positive}
 use Rattle.matrices.specs.Rows.{unit_row, unit_row_at}
 use Rattle.basis.specs.Frame.{Frame, Window, Change, change_then}
 use Rattle.basis.specs.Shear.{OnColumns, OnRows}
@@ -19,7 +19,8 @@ use Rattle.ordering.specs.Rotation.{rotation, rotated_change}
 use Rattle.splitting.specs.Pass.{Ready, ready_first, Chained}
 use Rattle.splitting.specs.Settle.{Headed, Wiped, wiped_none, Cleared, clear_turn, cleared_headed, Settled, headed_flat, settled_same, settled_longer, chained_headed}
 use Rattle.splitting.specs.Probe.{Joined, joined_ready, joined_headed, Probing, Probed, probe_start, probing_of_settled, probe_skip, probe_longer, probe_turn, probed_of_settled, probed_then, Split, split_of_probed}
-use Rattle.basis.specs.State.{State, frame, frame_within, Given, prime_positive, prime_distinct, zero_entry, entry_nonzero, field_row}
+use Rattle.basis.specs.declared.steps.State.{State}
+use Rattle.basis.specs.State.{frame, frame_within, Given, prime_distinct, zero_entry, entry_nonzero, field_row}
 use Rattle.basis.specs.Steps.{opposite_unit}
 use Rattle.basis.specs.Changes.{spread}
 use Rattle.basis.specs.Searches.{FirstNonzero}
@@ -30,15 +31,15 @@ use Rattle.ordering.specs.Orders.{InOrder}
 
 module _ (p n k m a : ℕ) (s : State) (g : Given p n k s) (h : Headed (modulo p) k m (frame p n s)) (l : a + 1 < m) where
   -- row a + 1 has nothing from column m on
-  pub wiped_already : NothingInRow m k (get_or s 0 []) (a + 1) → Wiped (modulo p) n k m a (frame p n s) (frame p n s)
+  pub wiped_already : NothingInRow m k s.b (a + 1) → Wiped (modulo p) n k m a (frame p n s) (frame p n s)
   wiped_already z = wiped_none (modulo p) n k m a (frame p n s) (λ t b. elim (dec_lt t k) [
-    | yes c ↦ zero_entry p n (get_or s 0 []) (suc a) t (omega (arith, g.fits, h.fits)) (omega (arith, g.fits)) (ap (λ (i : ℕ). cell (get_or s 0 []) i t) (sym (add-one a)) ∙ z t b c)
+    | yes c ↦ zero_entry p n s.b (suc a) t (omega (arith, g.fits, h.fits)) (omega (arith, g.fits)) (ap (λ (i : ℕ). cell s.b i t) (sym (add-one a)) ∙ z t b c)
     | no c ↦ h.window.right (suc a) t (omega (arith, h.fits)) (omega arith)
   ])
 
-  module _ (v : List ℕ) (ev : v ≡ tail_of p m k (get_or (get_or s 0 []) (a + 1) [])) where
-    next_row : FieldRow p n (get_or (get_or s 0 []) (a + 1) [])
-    next_row = field_row p n (get_or s 0 []) (a + 1) (omega (arith, g.fits, h.fits)) g.fields.B
+  module _ (v : List ℕ) (ev : v ≡ tail_of p m k (get_or s.b (a + 1) [])) where
+    next_row : FieldRow p n (get_or s.b (a + 1) [])
+    next_row = field_row p n s.b (a + 1) (omega (arith, g.fits, h.fits)) g.fields.B
 
     pub wiping_field : FieldRow p n v
     wiping_field = rw ev (tail_field p n m k _ (prime_positive p g.prime_p) g.fits next_row)
@@ -49,9 +50,9 @@ module _ (p n k m a : ℕ) (s : State) (g : Given p n k s) (h : Headed (modulo p
         let positive : 0 < p = prime_positive p g.prime_p in
         let inside : a + 1 < n = omega (arith, g.fits, h.fits) in
         let low : (q : ℕ) → q < m → vector p n v q ≡ (modulo p).zero = λ q d. ap (λ (x : List ℕ). vector p n x q) ev ∙ tail_low p n m k _ positive g.fits next_row q d in
-        let high : (q : ℕ) → m ≤ q → q < k → vector p n v q ≡ (modulo p).minus (matrix p n (get_or s 0 []) (suc a) q) = λ q d o.
-        ap (λ (x : List ℕ). vector p n x q) ev ∙ tail_high p n m k _ positive g.fits next_row q d o ∙ ap (λ (i : ℕ). (modulo p).minus (residue p (cell (get_or s 0 []) i q))) (add-one a)
-        ∙ ap (modulo p).minus (sym (matrix_inside p n (get_or s 0 []) (suc a) q (omega arith) (omega (arith, g.fits)))) in
+        let high : (q : ℕ) → m ≤ q → q < k → vector p n v q ≡ (modulo p).minus (matrix p n s.b (suc a) q) = λ q d o.
+        ap (λ (x : List ℕ). vector p n x q) ev ∙ tail_high p n m k _ positive g.fits next_row q d o ∙ ap (λ (i : ℕ). (modulo p).minus (residue p (cell s.b i q))) (add-one a)
+        ∙ ap (modulo p).minus (sym (matrix_inside p n s.b (suc a) q (omega arith) (omega (arith, g.fits)))) in
         let upto : (q : ℕ) → k ≤ q → vector p n v q ≡ (modulo p).zero = λ q d. ap (λ (x : List ℕ). vector p n x q) ev ∙ tail_upto p n m k _ positive g.fits next_row q d in
         let sheared = spread p n a v (omega arith) (ap (λ (x : List ℕ). get_or x a 0) ev ∙ tail_before p n m k _ positive g.fits next_row a (omega arith)) x y in
         record {
@@ -67,15 +68,15 @@ clear_next p n k m r s t u l x y = let e : r ≡ suc (r - 1) = omega arith in
 
 -- row r has nothing from column m on
 pub clear_skips : (p n k m r : ℕ) (s t : State) → Given p n k t → Headed (modulo p) k m (frame p n t) → 0 < r → r < m → Cleared (modulo p) n k m r (frame p n s) (frame p n t)
-    → NothingInRow m k (get_or t 0 []) r → Cleared (modulo p) n k m (r - 1) (frame p n s) (frame p n t)
-clear_skips p n k m r s t g h l rm x z = clear_next p n k m r s t t l x (wiped_already p n k m (r - 1) t g h (omega arith) (subst (NothingInRow m k (get_or t 0 [])) (omega arith) z))
+    → NothingInRow m k t.b r → Cleared (modulo p) n k m (r - 1) (frame p n s) (frame p n t)
+clear_skips p n k m r s t g h l rm x z = clear_next p n k m r s t t l x (wiped_already p n k m (r - 1) t g h (omega arith) (subst (NothingInRow m k t.b) (omega arith) z))
 
 module _ (p n k m : ℕ) (s c : State) (g : Given p n k c) (h : Headed (modulo p) k m (frame p n s)) (x : Cleared (modulo p) n k m 0 (frame p n s) (frame p n c)) where
   -- row 0 has nothing from column m on
-  pub settled_here : NothingInRow m k (get_or c 0 []) 0 → Settled (modulo p) n k m (frame p n s) m (frame p n c)
-  settled_here z = settled_same (modulo p) n k m (frame p n s) (frame p n c) h x (λ t a b. zero_entry p n (get_or c 0 []) 0 t (omega (arith, g.fits)) (omega (arith, g.fits)) (z t a b))
+  pub settled_here : NothingInRow m k c.b 0 → Settled (modulo p) n k m (frame p n s) m (frame p n c)
+  settled_here z = settled_same (modulo p) n k m (frame p n s) (frame p n c) h x (λ t a b. zero_entry p n c.b 0 t (omega (arith, g.fits)) (omega (arith, g.fits)) (z t a b))
 
-  module _ (j : ℕ) (f : FirstNonzero (cell (get_or c 0 []) 0) m k j) (l : j < k) (y : State) (o : InOrder n (rotation j (j + 1)) c y) where
+  module _ (j : ℕ) (f : FirstNonzero (cell c.b 0) m k j) (l : j < k) (y : State) (o : InOrder n (rotation j (j + 1)) c y) where
     turned_change : Change (modulo p) n k (frame p n c) (frame p n y)
     turned_change = rotated_change (modulo p) n j (j + 1) k _ _ (omega arith) (omega arith) g.fits (frame_within p n c) (frame_within p n y) (o.reordered p)
 
@@ -84,7 +85,7 @@ module _ (p n k m : ℕ) (s c : State) (g : Given p n k c) (h : Headed (modulo p
 
     pub settled_further : (q : ℕ) (r : State) → Chained (modulo p) n k (frame p n y) q (frame p n r) → Settled (modulo p) n k m (frame p n s) q (frame p n r)
     settled_further q r z = settled_longer (modulo p) (prime_distinct p g.prime_p) n k m j q (frame p n s) (frame p n c) (frame p n y) (frame p n r) g.fits f.low l
-        (frame_within p n c) (frame_within p n y) h x (entry_nonzero p n (get_or c 0 []) 0 j g.fields.B (omega (arith, g.fits)) (omega (arith, g.fits)) (f.hit l))
+        (frame_within p n c) (frame_within p n y) h x (entry_nonzero p n c.b 0 j g.fields.B (omega (arith, g.fits)) (omega (arith, g.fits)) (f.hit l))
         (subst (λ (i : ℕ). Reordered (modulo p) n (rotation j i) (frame p n c) (frame p n y)) (add-one j) (o.reordered p)) z
 
 -- e_0 + e_j
@@ -124,17 +125,17 @@ module _ (p n k j : ℕ) (s : State) (w : List ℕ) (t : State) (g : Given p n k
   vector_is : (i : ℕ) → vector p n w i ≡ (modulo p).plus (delta (modulo p) 0 i) (delta (modulo p) j i)
   vector_is i = rw e (joined_vector p n j g.order a (omega (arith, g.fits)) i)
 
-  pub join_ready : Window (modulo p) k (matrix p n (get_or s 0 [])) → Ready (modulo p) k 0 (frame p n t)
+  pub join_ready : Window (modulo p) k (matrix p n s.b) → Ready (modulo p) k 0 (frame p n t)
   join_ready v = joined_ready (modulo p) n k j (vector p n w) (frame p n s) (frame p n t) g.fits l (frame_within p n s) v vector_is x
 
   pub joined : (r : State) → (m : ℕ) × Chained (modulo p) n k (frame p n t) m (frame p n r) → Joined (modulo p) n k j (frame p n s) (frame p n r)
   joined r c = record { Z = frame p n t; w = vector p n w; is = vector_is; replaced = x; h = c.0; chained = c.1 }
 
 -- the vectors before the one that a test finds are killed as they stand; that one is joined to e_0
-pub probe_skips : (p n k m j r : ℕ) (s t : State) → k ≤ n → Probing (modulo p) n k m j (frame p n s) (frame p n t) → FirstUnkilled p n m j k (get_or t 0 []) r → Probing (modulo p) n k m r (frame p n s) (frame p n t)
+pub probe_skips : (p n k m j r : ℕ) (s t : State) → k ≤ n → Probing (modulo p) n k m j (frame p n s) (frame p n t) → FirstUnkilled p n m j k t.b r → Probing (modulo p) n k m r (frame p n s) (frame p n t)
 probe_skips p n k m j r s t kn x f = probe_skip (modulo p) n k m j r (frame p n s) (frame p n t) (omega (arith, f.high)) x f.killed
 
-module _ (p n k m j : ℕ) (s t u : State) (g : Given p n k u) (mj : m ≤ j) (jk : j < k) (x : Probing (modulo p) n k m j (frame p n s) (frame p n t)) (y : Joined (modulo p) n k j (frame p n t) (frame p n u)) (r : ℕ) (z : Reach k (get_or u 0 []) r) where
+module _ (p n k m j : ℕ) (s t u : State) (g : Given p n k u) (mj : m ≤ j) (jk : j < k) (x : Probing (modulo p) n k m j (frame p n s) (frame p n t)) (y : Joined (modulo p) n k j (frame p n t) (frame p n u)) (r : ℕ) (z : Reach k u.b r) where
   length_is : y.h ≡ r
   length_is = reach_is p n k y.h r u (prime_means p g.prime_p) g.fits g.fields (joined_headed (modulo p) n k m j (frame p n s) (frame p n t) (frame p n u) g.fits mj jk (frame_within p n t) x y) z
 
@@ -145,12 +146,12 @@ module _ (p n k m j : ℕ) (s t u : State) (g : Given p n k u) (mj : m ≤ j) (j
   probe_goes_on l = rw (add-one j) (probe_turn (modulo p) n k m j (frame p n s) (frame p n t) (frame p n u) g.fits mj jk (frame_within p n t) x y (omega (arith, length_is)))
 
 -- nothing is left behind the block, as a test says
-pub settled_already : (p n k m : ℕ) (c : State) → Given p n k c → Headed (modulo p) k m (frame p n c) → NothingBehind m k (get_or c 0 []) → Probing (modulo p) n k m m (frame p n c) (frame p n c)
+pub settled_already : (p n k m : ℕ) (c : State) → Given p n k c → Headed (modulo p) k m (frame p n c) → NothingBehind m k c.b → Probing (modulo p) n k m m (frame p n c) (frame p n c)
 settled_already p n k m c g h z = probe_start (modulo p) n k m (frame p n c) h (headed_flat (modulo p) k m (frame p n c) h (λ i t a b l.
-    zero_entry p n (get_or c 0 []) i t (omega (arith, g.fits, h.fits)) (omega (arith, g.fits)) (z i a t b l)))
+    zero_entry p n c.b i t (omega (arith, g.fits, h.fits)) (omega (arith, g.fits)) (z i a t b l)))
 
 -- a longer block was made, or nothing is left behind the block
-module _ (p n k m : ℕ) (s c : State) (g : Given p n k c) (x : (h : ℕ) × Settled (modulo p) n k m (frame p n s) h (frame p n c)) (r : ℕ) (z : Reach k (get_or c 0 []) r) where
+module _ (p n k m : ℕ) (s c : State) (g : Given p n k c) (x : (h : ℕ) × Settled (modulo p) n k m (frame p n s) h (frame p n c)) (r : ℕ) (z : Reach k c.b r) where
   settled_is : x.0 ≡ r
   settled_is = reach_is p n k x.0 r c (prime_means p g.prime_p) g.fits g.fields x.1.headed z
 
@@ -165,7 +166,7 @@ pub settle_probes : (p n k m : ℕ) (s c u : State) → Probing (modulo p) n k m
 settle_probes p n k m s c u x y = (y.0, probed_then (modulo p) n k m (frame p n s) (frame p n c) y.0 (frame p n u) x.change y.1)
 
 -- the turns
-module _ (p n k m : ℕ) (s c u : State) (g : Given p n k u) (x : Change (modulo p) n k (frame p n s) (frame p n c)) (y : (h : ℕ) × Probed (modulo p) n k m (frame p n c) h (frame p n u)) (r : ℕ) (z : Reach k (get_or u 0 []) r) where
+module _ (p n k m : ℕ) (s c u : State) (g : Given p n k u) (x : Change (modulo p) n k (frame p n s) (frame p n c)) (y : (h : ℕ) × Probed (modulo p) n k m (frame p n c) h (frame p n u)) (r : ℕ) (z : Reach k u.b r) where
   probed_is : y.0 ≡ r
   probed_is = reach_is p n k y.0 r u (prime_means p g.prime_p) g.fits g.fields y.1.headed z
 
@@ -175,9 +176,9 @@ module _ (p n k m : ℕ) (s c u : State) (g : Given p n k u) (x : Change (modulo
   pub split_turn : Change (modulo p) n k (frame p n s) (frame p n u) × Headed (modulo p) k r (frame p n u)
   split_turn = (change_then (modulo p) n k x y.1.change, subst (λ (q : ℕ). Headed (modulo p) k q (frame p n u)) probed_is y.1.headed)
 
-pub chained_reach : (p n k : ℕ) (s c : State) → Given p n k c → (m : ℕ) × Chained (modulo p) n k (frame p n s) m (frame p n c) → (r : ℕ) → Reach k (get_or c 0 []) r → Headed (modulo p) k r (frame p n c)
+pub chained_reach : (p n k : ℕ) (s c : State) → Given p n k c → (m : ℕ) × Chained (modulo p) n k (frame p n s) m (frame p n c) → (r : ℕ) → Reach k c.b r → Headed (modulo p) k r (frame p n c)
 chained_reach p n k s c g x r z = let h = chained_headed (modulo p) n k (frame p n s) x.0 (frame p n c) x.1 in
     subst (λ (q : ℕ). Headed (modulo p) k q (frame p n c)) (reach_is p n k x.0 r c (prime_means p g.prime_p) g.fits g.fields h z) h
 
-pub split_reach : (p n k : ℕ) (s c : State) → Given p n k c → (m : ℕ) × Split (modulo p) n k (frame p n s) m (frame p n c) → (r : ℕ) → Reach k (get_or c 0 []) r → Split (modulo p) n k (frame p n s) r (frame p n c)
+pub split_reach : (p n k : ℕ) (s c : State) → Given p n k c → (m : ℕ) × Split (modulo p) n k (frame p n s) m (frame p n c) → (r : ℕ) → Reach k c.b r → Split (modulo p) n k (frame p n s) r (frame p n c)
 split_reach p n k s c g x r z = subst (λ (q : ℕ). Split (modulo p) n k (frame p n s) q (frame p n c)) (reach_is p n k x.0 r c (prime_means p g.prime_p) g.fits g.fields x.1.headed z) x.1

@@ -13,18 +13,18 @@ ghost use Rattle.splitting.specs.Powers.{applied, KilledTest};
 ghost use Rattle.splitting.specs.Tests.{NothingBehind, FirstUnkilled, FoundUnkilled};
 
 use crate::passes::{chain, first_pivot, reach};
-use basis::remainders::Modulus;
 use basis::steps::{
     State, add_columns, add_multiple, column, combination, first_nonzero, inner, replace,
     with_entry,
 };
 use forms::ORDER;
-use matrices::{Mat, Row, unit_row};
+use matrices::{Mat, Order, Row, unit_row};
 use ordering::turning::rotate;
+use residues::modulus::Modulus;
 
 // Minus the entries m .. k - 1 of x, and zeros.
-fn tail(x: Row, m: usize, k: usize, n: usize, modulus: Modulus) -> Row
-    requires { (n ≤ order_limit) × (k ≤ n) × FieldRow modulus.p n x }
+fn tail(x: Row, m: usize, k: usize, order: Order, modulus: Modulus) -> Row
+    requires { (k ≤ order.n) × FieldRow modulus.p order.n x }
     ensures { result ≡ tail_of modulus.p m k x }
 {
     let mut r = [0; ORDER];
@@ -35,35 +35,35 @@ fn tail(x: Row, m: usize, k: usize, n: usize, modulus: Modulus) -> Row
 }
 
 // Row a + 1 is wiped from column m on, by multiples of e_a.
-fn wipe(s: State, a: usize, m: usize, k: usize, n: usize, modulus: Modulus) -> State
-    requires { Given modulus.p n k s × Headed (modulo modulus.p) k m (frame modulus.p n s) × (a + 1 < m) }
-    ensures { Fields modulus.p n result × Wiped (modulo modulus.p) n k m a (frame modulus.p n s) (frame modulus.p n result) }
+fn wipe(s: State, a: usize, m: usize, k: usize, order: Order, modulus: Modulus) -> State
+    requires { Given modulus.p order.n k s × Headed (modulo modulus.p) k m (frame modulus.p order.n s) × (a + 1 < m) }
+    ensures { Fields modulus.p order.n result × Wiped (modulo modulus.p) order.n k m a (frame modulus.p order.n s) (frame modulus.p order.n result) }
 {
-    let v = tail(s[0][a + 1], m, k, n, modulus);
-    let mut c = add_columns(s, a, v, n, modulus);
-    c[0][a] = add_multiple(
-        c[0][a],
+    let v = tail(s.b[a + 1], m, k, order, modulus);
+    let mut c = add_columns(s, a, v, order, modulus);
+    c.b[a] = add_multiple(
+        c.b[a],
         modulus.p - 1,
-        combination(v, c[0], n, modulus),
+        combination(v, c.b, order, modulus),
         modulus,
     );
-    c[2][a] = add_multiple(
-        c[2][a],
+    c.back[a] = add_multiple(
+        c.back[a],
         modulus.p - 1,
-        combination(v, c[2], n, modulus),
+        combination(v, c.back, order, modulus),
         modulus,
     );
     c
 }
 
 // Rows 1 .. m - 1 are wiped where they have something from column m on.
-fn clear(mut s: State, m: usize, k: usize, n: usize, modulus: Modulus) -> State
-    requires { Given modulus.p n k s × Headed (modulo modulus.p) k m (frame modulus.p n s) }
-    ensures { Fields modulus.p n result × Cleared (modulo modulus.p) n k m 0 (frame modulus.p n s) (frame modulus.p n result) }
+fn clear(mut s: State, m: usize, k: usize, order: Order, modulus: Modulus) -> State
+    requires { Given modulus.p order.n k s × Headed (modulo modulus.p) k m (frame modulus.p order.n s) }
+    ensures { Fields modulus.p order.n result × Cleared (modulo modulus.p) order.n k m 0 (frame modulus.p order.n s) (frame modulus.p order.n result) }
 {
     for r in (1..m).rev() {
-        if first_nonzero(s[0][r], m, k).is_some() {
-            let next = wipe(s, r - 1, m, k, n, modulus);
+        if first_nonzero(s.b[r], m, k).is_some() {
+            let next = wipe(s, r - 1, m, k, order, modulus);
             s = next;
         }
     }
@@ -71,24 +71,24 @@ fn clear(mut s: State, m: usize, k: usize, n: usize, modulus: Modulus) -> State
 }
 
 // Nothing is left behind the block, or a longer one is made.
-fn settle(s: State, m: usize, k: usize, n: usize, modulus: Modulus) -> State
-    requires { Given modulus.p n k s × Headed (modulo modulus.p) k m (frame modulus.p n s) }
-    ensures { Fields modulus.p n result × ((h : ℕ) × Settled (modulo modulus.p) n k m (frame modulus.p n s) h (frame modulus.p n result)) }
+fn settle(s: State, m: usize, k: usize, order: Order, modulus: Modulus) -> State
+    requires { Given modulus.p order.n k s × Headed (modulo modulus.p) k m (frame modulus.p order.n s) }
+    ensures { Fields modulus.p order.n result × ((h : ℕ) × Settled (modulo modulus.p) order.n k m (frame modulus.p order.n s) h (frame modulus.p order.n result)) }
 {
-    let c = clear(s, m, k, n, modulus);
-    let Some(j) = first_nonzero(c[0][0], m, k) else {
+    let c = clear(s, m, k, order, modulus);
+    let Some(j) = first_nonzero(c.b[0], m, k) else {
         return c;
     };
-    chain(rotate(c, j, j + 1, n), k, n, modulus)
+    chain(rotate(c, j, j + 1, order), k, order, modulus)
 }
 
 // b g
-fn apply(b: &Mat, g: Row, n: usize, modulus: Modulus) -> Row
-    requires { (n ≤ order_limit) × FieldMatrix modulus.p n b.now }
-    ensures { result ≡ applied modulus.p n b.now g }
+fn apply(b: &Mat, g: Row, order: Order, modulus: Modulus) -> Row
+    requires { FieldMatrix modulus.p order.n b.now }
+    ensures { result ≡ applied modulus.p order.n b.now g }
 {
     let mut r = [0; ORDER];
-    for i in 0..n {
+    for i in 0..order.n {
         r[i] = inner(b[i], g, modulus);
     }
     r
@@ -103,28 +103,28 @@ pub fn same_row(x: Row, y: Row, n: usize) -> bool
 }
 
 // Whether the polynomial of the block of m kills e_j, tried by powers of b.
-fn killed(b: &Mat, j: usize, m: usize, n: usize, modulus: Modulus) -> bool
-    requires { (n ≤ order_limit) × (j < n) × (0 < m) × (m ≤ n) × FieldMatrix modulus.p n b.now }
-    ensures { KilledTest modulus.p n m j b.now result }
+fn killed(b: &Mat, j: usize, m: usize, order: Order, modulus: Modulus) -> bool
+    requires { (j < order.n) × (0 < m) × (m ≤ order.n) × FieldMatrix modulus.p order.n b.now }
+    ensures { KilledTest modulus.p order.n m j b.now result }
 {
-    let mut g = column(b, j, n);
+    let mut g = column(b, j, order);
     let mut v = with_entry([0; ORDER], j, b[0][m - 1]);
     for e in 1..m {
         let sum = add_multiple(v, b[e][m - 1], g, modulus);
-        let power = apply(b, g, n, modulus);
+        let power = apply(b, g, order, modulus);
         v = sum;
         g = power;
     }
-    same_row(g, v, n)
+    same_row(g, v, order.n)
 }
 
 // A pass from e_0 + e_j.
-fn join(s: State, j: usize, k: usize, n: usize, modulus: Modulus) -> State
-    requires { Given modulus.p n k s × (0 < j) × (j < k) × Window (modulo modulus.p) k (matrix modulus.p n (get_or s 0 [])) }
-    ensures { Fields modulus.p n result × Joined (modulo modulus.p) n k j (frame modulus.p n s) (frame modulus.p n result) }
+fn join(s: State, j: usize, k: usize, order: Order, modulus: Modulus) -> State
+    requires { Given modulus.p order.n k s × (0 < j) × (j < k) × Window (modulo modulus.p) k (matrix modulus.p order.n s.b) }
+    ensures { Fields modulus.p order.n result × Joined (modulo modulus.p) order.n k j (frame modulus.p order.n s) (frame modulus.p order.n result) }
 {
     let w = with_entry(unit_row(0), j, 1);
-    chain(replace(s, 0, w, n, modulus), k, n, modulus)
+    chain(replace(s, 0, w, order, modulus), k, order, modulus)
 }
 
 // The first vector from e_from on, below k, that the polynomial of the block of m is not found to kill.
@@ -133,29 +133,29 @@ fn first_unkilled(
     from: usize,
     m: usize,
     k: usize,
-    n: usize,
+    order: Order,
     modulus: Modulus,
 ) -> Option<usize>
-    requires { (n ≤ order_limit) × (from ≤ k) × (k ≤ n) × (0 < m) × (m ≤ n) × FieldMatrix modulus.p n b.now }
-    ensures { FoundUnkilled modulus.p n m from k b.now result }
+    requires { (from ≤ k) × (k ≤ order.n) × (0 < m) × (m ≤ order.n) × FieldMatrix modulus.p order.n b.now }
+    ensures { FoundUnkilled modulus.p order.n m from k b.now result }
 {
-    (from..k).find(|&j| !killed(b, j, m, n, modulus))
+    (from..k).find(|&j| !killed(b, j, m, order, modulus))
 }
 
 // Nothing is left behind the block, and e_from is the first vector that is not found killed: a longer block is made, or the block's polynomial
 // kills the window.
-fn probe(mut s: State, from: usize, m: usize, k: usize, n: usize, modulus: Modulus) -> State
-    requires { Given modulus.p n k s × Headed (modulo modulus.p) k m (frame modulus.p n s) × CompanionRows (modulo modulus.p) m (matrix modulus.p n (get_or s 0 [])) × (from < k) × FirstUnkilled modulus.p n m m k (get_or s 0 []) from }
-    ensures { Fields modulus.p n result × ((h : ℕ) × Probed (modulo modulus.p) n k m (frame modulus.p n s) h (frame modulus.p n result)) }
+fn probe(mut s: State, from: usize, m: usize, k: usize, order: Order, modulus: Modulus) -> State
+    requires { Given modulus.p order.n k s × Headed (modulo modulus.p) k m (frame modulus.p order.n s) × CompanionRows (modulo modulus.p) m (matrix modulus.p order.n s.b) × (from < k) × FirstUnkilled modulus.p order.n m m k s.b from }
+    ensures { Fields modulus.p order.n result × ((h : ℕ) × Probed (modulo modulus.p) order.n k m (frame modulus.p order.n s) h (frame modulus.p order.n result)) }
 {
     let mut j = from;
     loop {
-        let next = join(s, j, k, n, modulus);
+        let next = join(s, j, k, order, modulus);
         s = next;
-        if m < reach(&s[0], k) {
+        if m < reach(&s.b, k) {
             return s;
         }
-        let Some(q) = first_unkilled(&s[0], j + 1, m, k, n, modulus) else {
+        let Some(q) = first_unkilled(&s.b, j + 1, m, k, order, modulus) else {
             return s;
         };
         j = q;
@@ -172,31 +172,31 @@ fn is_settled(b: &Mat, m: usize, k: usize) -> bool
 
 // The window becomes a block whose polynomial kills all of it, and the rest: each turn makes a longer block or is the last.
 // A state is handed on only where the matrix shows that there is something to do.
-pub fn split(mut s: State, k: usize, n: usize, modulus: Modulus) -> State
-    requires { Given modulus.p n k s × (0 < k) × Window (modulo modulus.p) k (matrix modulus.p n (get_or s 0 [])) }
-    ensures { Fields modulus.p n result × ((m : ℕ) × Split (modulo modulus.p) n k (frame modulus.p n s) m (frame modulus.p n result)) }
+pub fn split(mut s: State, k: usize, order: Order, modulus: Modulus) -> State
+    requires { Given modulus.p order.n k s × (0 < k) × Window (modulo modulus.p) k (matrix modulus.p order.n s.b) }
+    ensures { Fields modulus.p order.n result × ((m : ℕ) × Split (modulo modulus.p) order.n k (frame modulus.p order.n s) m (frame modulus.p order.n result)) }
 {
-    if first_pivot(&s[0], 0, k).is_some() {
-        let next = chain(s, k, n, modulus);
+    if first_pivot(&s.b, 0, k).is_some() {
+        let next = chain(s, k, order, modulus);
         s = next;
     }
-    let mut m = reach(&s[0], k);
+    let mut m = reach(&s.b, k);
     loop {
-        if !is_settled(&s[0], m, k) {
-            let next = settle(s, m, k, n, modulus);
+        if !is_settled(&s.b, m, k) {
+            let next = settle(s, m, k, order, modulus);
             s = next;
-            let h = reach(&s[0], k);
+            let h = reach(&s.b, k);
             if m < h {
                 m = h;
                 continue;
             }
         }
-        let Some(j) = first_unkilled(&s[0], m, m, k, n, modulus) else {
+        let Some(j) = first_unkilled(&s.b, m, m, k, order, modulus) else {
             return s;
         };
-        let next = probe(s, j, m, k, n, modulus);
+        let next = probe(s, j, m, k, order, modulus);
         s = next;
-        let h = reach(&s[0], k);
+        let h = reach(&s.b, k);
         if h <= m {
             return s;
         }

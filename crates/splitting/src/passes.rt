@@ -8,10 +8,10 @@ ghost use Rattle.basis.specs.State.{frame, Fields, Given};
 ghost use Rattle.basis.specs.Searches.{Found};
 ghost use Rattle.splitting.specs.Reaching.{Reach};
 
-use basis::remainders::Modulus;
 use basis::steps::{State, column, replace};
-use matrices::Mat;
+use matrices::{Mat, Order};
 use ordering::exchange::exchange_vectors;
+use residues::modulus::Modulus;
 
 // The first row from j + 1 on, below k, where column j is not zero.
 pub fn first_pivot(b: &Mat, j: usize, k: usize) -> Option<usize>
@@ -22,20 +22,20 @@ pub fn first_pivot(b: &Mat, j: usize, k: usize) -> Option<usize>
 }
 
 // From column 0 on, as far as there are pivots: the first pivot of column j comes to row j + 1, and column j takes the place of e_(j+1).
-pub fn chain(mut s: State, k: usize, n: usize, modulus: Modulus) -> State
-    requires { Given modulus.p n k s × (0 < k) × Ready (modulo modulus.p) k 0 (frame modulus.p n s) }
-    ensures { Fields modulus.p n result × ((m : ℕ) × Chained (modulo modulus.p) n k (frame modulus.p n s) m (frame modulus.p n result)) }
+pub fn chain(mut s: State, k: usize, order: Order, modulus: Modulus) -> State
+    requires { Given modulus.p order.n k s × (0 < k) × Ready (modulo modulus.p) k 0 (frame modulus.p order.n s) }
+    ensures { Fields modulus.p order.n result × ((m : ℕ) × Chained (modulo modulus.p) order.n k (frame modulus.p order.n s) m (frame modulus.p order.n result)) }
 {
     for j in 0..k - 1 {
-        let Some(q) = first_pivot(&s[0], j, k) else {
+        let Some(q) = first_pivot(&s.b, j, k) else {
             return s;
         };
         if j + 1 < q {
-            let pulled = exchange_vectors(s, j + 1, q, n);
+            let pulled = exchange_vectors(s, j + 1, q, order);
             s = pulled;
         }
-        let w = column(&s[0], j, n);
-        let next = replace(s, j + 1, w, n, modulus);
+        let w = column(&s.b, j, order);
+        let next = replace(s, j + 1, w, order, modulus);
         s = next;
     }
     s

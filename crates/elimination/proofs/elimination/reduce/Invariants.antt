@@ -7,7 +7,7 @@ use Rattle.elimination.specs.Form.{Stage}
 use Rattle.elimination.proofs.elimination.reduce.Given as goal
 
 abbrev pub invariant-loop-k : goal.invariant-loop-k
-invariant-loop-k l = (l.k ≤ l.n) × Fields l.modulus.p l.n l.s × Stage (modulo l.modulus.p) l.n l.k (matrix l.modulus.p l.n l.fn.a) (frame l.modulus.p l.n l.s)
+invariant-loop-k l = (l.k ≤ l.order.n) × Fields l.m.p l.order.n l.s × Stage (modulo l.m.p) l.order.n l.k (matrix l.m.p l.order.n l.fn.a) (frame l.m.p l.order.n l.s)
 
 abbrev pub decreases-loop-k : goal.decreases-loop-k
 decreases-loop-k l = l.k

@@ -10,7 +10,7 @@ use Rattle.ordering.specs.Orders.{exchanged_columns}
 use Rattle.ordering.proofs.exchange.exchange_columns.Goals as goal
 
 pub loop-row-init : goal.loop-row-init
-loop-row-init c = take-append-drop c.args.n c.args.x ∙ fill_start _ _
+loop-row-init c = take-append-drop c.args.order.n c.args.x ∙ fill_start _ _
 
 pub loop-row-preserved : goal.loop-row-preserved
 loop-row-preserved c =

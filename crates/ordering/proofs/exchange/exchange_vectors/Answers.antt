@@ -7,5 +7,5 @@ use Rattle.ordering.proofs.exchange.exchange_vectors.Goals as goal
 pub returns : goal.returns
 returns c =
     let a = c.args in
-    let inside = exchange_below a.n a.a a.b (search rules) (search rules) in
-    in_order _ _ inside a.s _ (columns_then_rows _ _ inside _ _ c.exchange_rows-m.result c.exchange_columns.ensures c.exchange_rows-m.ensures) c.exchange_columns-t.ensures c.exchange_rows-i.ensures
+    let inside = exchange_below a.order.n a.a a.b (search rules) (search rules) in
+    in_order _ _ inside a.s _ (columns_then_rows _ _ inside _ _ c.exchange_rows.result c.exchange_columns.ensures c.exchange_rows.ensures) c.exchange_columns-2.ensures c.exchange_rows-2.ensures

@@ -26,10 +26,9 @@ bounds-s-q-in-loop-i c = c.rotation_of-q.ensures.1.inside c.loop-i.i (search rul
 pub loop-i-preserved : goal.loop-i-preserved
 loop-i-preserved c =
     let l = c.loop-i in
-    let shape = squares c.args.s _ c.well_formed.0.1.0.1 c.well_formed.0.1.1 in
-    turned_turn _ _ c.args.s l.r _ _ _ (search rules) (λ k h. omega (arith, (shape.square k h).tall)) l.invariant c.turn_row.ensures c.turn_row-in-loop-i.ensures refl
+    turned_turn _ _ c.args.s l.r _ _ _ (squares c.args.s c.well_formed.0.1.1) (search rules) l.invariant c.turn_row.ensures c.turn_row-in-loop-i.ensures refl
 
 pub returns : goal.returns
 returns c =
-    in_order_equal _ _ _ c.args.s _ (λ i h. rotation_place _ _ c.requires.1 _ c.rotation_of-q.ensures.0 i (omega arith))
-    (turned_end _ c.requires.0 _ (rotation_places _ _ c.requires.1 _ c.rotation_of-q.ensures.0 _ c.requires.2 c.requires.0) c.args.s _ c.loop-i.invariant (search rules) (search rules))
+    in_order_equal _ _ _ c.args.s _ (λ i h. rotation_place _ _ c.requires.0 _ c.rotation_of-q.ensures.0 i (omega arith))
+    (turned_end _ c.args.order.limited _ (rotation_places _ _ c.requires.0 _ c.rotation_of-q.ensures.0 _ c.requires.1 c.args.order.limited) c.args.s _ c.loop-i.invariant (search rules) (search rules))

@@ -9,4 +9,4 @@ pub loop-i-init : goal.loop-i-init
 loop-i-init c = fill_start _ _
 
 pub loop-i-preserved : goal.loop-i-preserved
-loop-i-preserved c = fill_turn _ _ _ (search rules) c.loop-i.invariant (c.inner.ensures ∙ entry_short c.args.modulus.p c.args.n (get_or c.args.b.now c.loop-i.i []) c.args.g c.requires.0 (field_row _ _ c.args.b.now _ (search rules) c.requires.1))
+loop-i-preserved c = fill_turn _ _ _ (search rules) c.loop-i.invariant (c.inner.ensures ∙ entry_short c.args.modulus.p c.args.order.n (get_or c.args.b.now c.loop-i.i []) c.args.g c.args.order.limited (field_row _ _ c.args.b.now _ (search rules) c.requires))

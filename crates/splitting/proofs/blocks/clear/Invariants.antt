@@ -6,4 +6,4 @@ use Rattle.splitting.specs.Settle.{Cleared}
 use Rattle.splitting.proofs.blocks.clear.Given as goal
 
 abbrev pub invariant-loop-r : goal.invariant-loop-r
-invariant-loop-r l = Fields l.modulus.p l.n l.s × Cleared (modulo l.modulus.p) l.n l.k l.m (l.r - 1) (frame l.modulus.p l.n l.initial.s) (frame l.modulus.p l.n l.s)
+invariant-loop-r l = Fields l.modulus.p l.order.n l.s × Cleared (modulo l.modulus.p) l.order.n l.k l.m (l.r - 1) (frame l.modulus.p l.order.n l.initial.s) (frame l.modulus.p l.order.n l.s)

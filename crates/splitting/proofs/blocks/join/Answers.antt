@@ -10,7 +10,7 @@ replace-requires c = (
   given_whole c.requires.0,
   omega (arith, c.requires.0.fits),
   rw (c.with_entry-w.ensures, c.unit_row.ensures) (joined_field _ _ _ c.requires.0.order c.requires.1 (omega (arith, c.requires.0.fits)) (prime_means _ c.requires.0.prime_p).large),
-  rw (c.with_entry-w.ensures, c.unit_row.ensures) (λ z. omega (arith, joined_first 2 c.args.n _ c.requires.0.order c.requires.1 (omega (arith, c.requires.0.fits)), z)),
+  rw (c.with_entry-w.ensures, c.unit_row.ensures) (λ z. omega (arith, joined_first 2 c.args.order.n _ c.requires.0.order c.requires.1 (omega (arith, c.requires.0.fits)), z)),
 )
 
 pub chain-requires : goal.chain-requires

@@ -3,4 +3,4 @@ use Rattle.splitting.specs.Powers.{Powered}
 use Rattle.splitting.proofs.blocks.killed.Given as goal
 
 abbrev pub invariant-loop-e : goal.invariant-loop-e
-invariant-loop-e l = Powered l.modulus.p l.n l.m l.j l.b l.e l.g l.v
+invariant-loop-e l = Powered l.modulus.p l.order.n l.m l.j l.b l.e l.g l.v

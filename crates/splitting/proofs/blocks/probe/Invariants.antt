@@ -5,8 +5,8 @@ use Rattle.basis.specs.State.{frame, Fields}
 use Rattle.splitting.specs.Probe.{Probing}
 use Rattle.splitting.proofs.blocks.probe.Given as goal
 
-abbrev pub invariant-loop-modulus : goal.invariant-loop-modulus
-invariant-loop-modulus l = (l.m ≤ l.j) × (l.j < l.k) × Fields l.modulus.p l.n l.s × Probing (modulo l.modulus.p) l.n l.k l.m l.j (frame l.modulus.p l.n l.initial.s) (frame l.modulus.p l.n l.s)
+abbrev pub invariant-loop-order : goal.invariant-loop-order
+invariant-loop-order l = (l.m ≤ l.j) × (l.j < l.k) × Fields l.modulus.p l.order.n l.s × Probing (modulo l.modulus.p) l.order.n l.k l.m l.j (frame l.modulus.p l.order.n l.initial.s) (frame l.modulus.p l.order.n l.s)
 
-abbrev pub decreases-loop-modulus : goal.decreases-loop-modulus
-decreases-loop-modulus l = l.k - l.j
+abbrev pub decreases-loop-order : goal.decreases-loop-order
+decreases-loop-order l = l.k - l.j

@@ -11,14 +11,14 @@ use Rattle.splitting.proofs.blocks.split.Goals as goal
 use Rattle.splitting.proofs.blocks.split.Goals.{Joined-is_some, Joined-not-is_settled, then-is_some, else-is_some, then-not-is_settled+else-m-h, else-not-is_settled}
 
 -- the pass is made, or there is nothing to pass: column 0 has no pivot
-chained : (c : Joined-is_some) → Fields c.args.modulus.p c.args.n c.if-is_some.s × ((m : ℕ) × Chained (modulo c.args.modulus.p) c.args.n c.args.k (frame c.args.modulus.p c.args.n c.args.s) m (frame c.args.modulus.p c.args.n c.if-is_some.s))
+chained : (c : Joined-is_some) → Fields c.args.modulus.p c.args.order.n c.if-is_some.s × ((m : ℕ) × Chained (modulo c.args.modulus.p) c.args.order.n c.args.k (frame c.args.modulus.p c.args.order.n c.args.s) m (frame c.args.modulus.p c.args.order.n c.if-is_some.s))
 chained c = elim c.if-is_some.branch [
   | then-is_some w ↦ rw w.s-is w.chain-next.ensures
   | else-is_some w ↦ rw w.s-is (c.requires.0.fields, (1, chain_end _ _ _ _ c.args.s c.args.s c.requires.0 c.requires.1 (found_none _ _ _ c.first_pivot.result c.first_pivot.ensures w.if-is_some.ensures) (passed_start _ _ _ _ _ _ (ready_first _ _ _ c.requires.2))))
 ]
 
 -- nothing is left behind the block, and it is as long as it was
-settled : (c : Joined-not-is_settled) → Fields c.args.modulus.p c.args.n c.if-not-is_settled.s × Probing (modulo c.args.modulus.p) c.args.n c.args.k c.loop-s.m c.loop-s.m (frame c.args.modulus.p c.args.n c.loop-s.s) (frame c.args.modulus.p c.args.n c.if-not-is_settled.s)
+settled : (c : Joined-not-is_settled) → Fields c.args.modulus.p c.args.order.n c.if-not-is_settled.s × Probing (modulo c.args.modulus.p) c.args.order.n c.args.k c.loop-s.m c.loop-s.m (frame c.args.modulus.p c.args.order.n c.loop-s.s) (frame c.args.modulus.p c.args.order.n c.if-not-is_settled.s)
 settled c = elim c.if-not-is_settled.branch [
   | then-not-is_settled+else-m-h w ↦ rw w.s-is (w.settle-next.ensures.0, settle_stays _ _ _ _ c.loop-s.s w.settle-next.result (given_next c.requires.0 w.settle-next.ensures.0) w.settle-next.ensures.1 _ w.reach-h.ensures w.if-m-h.false)
   | else-not-is_settled w ↦ rw w.s-is (c.loop-s.invariant.0, settled_already _ _ _ _ c.loop-s.s (given_next c.requires.0 c.loop-s.invariant.0) c.loop-s.invariant.1.1 (c.is_settled.ensures w.if-not-is_settled.false))

@@ -9,7 +9,7 @@ use Rattle.splitting.proofs.passes.chain.Goals as goal
 use Rattle.splitting.proofs.passes.chain.Goals.{Joined-j-q, then-j-q, else-j-q}
 
 -- the first pivot of column j has come to row j + 1
-pulled : (c : Joined-j-q) → Fields c.args.modulus.p c.args.n c.if-j-q.s × Pulled (modulo c.args.modulus.p) c.args.n c.args.k c.loop-j.j (frame c.args.modulus.p c.args.n c.loop-j.s) (frame c.args.modulus.p c.args.n c.if-j-q.s)
+pulled : (c : Joined-j-q) → Fields c.args.modulus.p c.args.order.n c.if-j-q.s × Pulled (modulo c.args.modulus.p) c.args.order.n c.args.k c.loop-j.j (frame c.args.modulus.p c.args.order.n c.loop-j.s) (frame c.args.modulus.p c.args.order.n c.if-j-q.s)
 pulled c = let g = given_next c.requires.0 c.loop-j.invariant.0 in elim c.if-j-q.branch [
   | then-j-q w ↦ rw w.s-is (w.exchange_vectors-pulled.ensures.fields _ c.loop-j.invariant.0, pull_some _ _ _ _ _ c.loop-j.s g c.loop-j.invariant.1.ready c.in-Some.ensures.1 c.in-Some.ensures.0 w.exchange_vectors-pulled.result w.if-j-q.true w.exchange_vectors-pulled.ensures)
   | else-j-q w ↦ rw w.s-is (c.loop-j.invariant.0, pull_none _ _ _ _ _ c.loop-j.s g c.loop-j.invariant.1.ready c.in-Some.ensures.1 c.in-Some.ensures.0 w.if-j-q.false)
