@@ -1,11 +1,12 @@
 -- The coefficients of D, P, Q and their inverses as the code computes them, from F, T and the inverse of T: row i of F ends its block at row
 -- `end`; `from` has the row of F for each row of D, and `last` the end of each row's block.
-use Rattle.std.specs.Prelude.{cond, List, [], ℕ, ◌+◌, ◌*◌, ◌-◌, ◌%◌, ◌≤◌, ◌<◌, eqb, leb, get_or, replicate}
+use Rattle.std.specs.Prelude.{cond, List, ℕ, ◌+◌, ◌*◌, ◌-◌, ◌%◌, ◌≤◌, ◌<◌, eqb, leb, replicate}
 use Rattle.forms.specs.Numbers.{at, total, order_limit}
 use Rattle.forms.specs.Polynomials.{Coefficients}
 use Rattle.forms.specs.ClosedForms.{opposite}
 use Rattle.matrices.specs.Matrices.{cell}
-use Rattle.basis.specs.State.{Array, State}
+use Rattle.basis.specs.State.{Array}
+use Rattle.basis.specs.declared.steps.State.{State}
 use Rattle.heads.specs.Heads.{begins}
 use Rattle.entries.specs.declared.closed.Factor.{Factor}
 use Rattle.entries.specs.declared.closed.Factor.TheVariants.{P, PInverse, Q, QInverse}
@@ -15,9 +16,9 @@ pub record Small (p : ℕ) (m : Array) : Type 0 where
   pub entry : (i j : ℕ) → cell m i j < p
 
 pub record SmallState (p : ℕ) (s : State) : Type 0 where
-  pub F : Small p (get_or s 0 [])
-  pub T : Small p (get_or s 1 [])
-  pub TI : Small p (get_or s 2 [])
+  pub F : Small p s.b
+  pub T : Small p s.t
+  pub TI : Small p s.back
 
 -- the rows of F for the rows of D are below n, and each is in a block that ends below n
 pub record Tables (n : ℕ) (from last : List ℕ) : Type 0 where
@@ -59,10 +60,10 @@ QI_coefficient p F TI end i c k =
 -- coefficient k of the entry (r, c) of P, Q or an inverse; row i of F belongs to row r of P and of the inverse of Q, and to column c of the
 -- other two
 unfoldable pub closed_coefficient : ℕ → State → ℕ → ℕ → Factor → ℕ → ℕ → ℕ → ℕ
-closed_coefficient p s i end P r c k = P_coefficient (get_or s 2 []) end i c k
-closed_coefficient p s i end PInverse r c k = PI_coefficient p (get_or s 0 []) (get_or s 1 []) r i k
-closed_coefficient p s i end Q r c k = Q_coefficient p (get_or s 0 []) (get_or s 1 []) end r i k
-closed_coefficient p s i end QInverse r c k = QI_coefficient p (get_or s 0 []) (get_or s 2 []) end i c k
+closed_coefficient p s i end P r c k = P_coefficient s.back end i c k
+closed_coefficient p s i end PInverse r c k = PI_coefficient p s.b s.t r i k
+closed_coefficient p s i end Q r c k = Q_coefficient p s.b s.t end r i k
+closed_coefficient p s i end QInverse r c k = QI_coefficient p s.b s.back end i c k
 
 abbrev pub side : Factor → ℕ → ℕ → ℕ
 side P r c = r

@@ -1,17 +1,17 @@
 // D, P, Q and their inverses, entry by entry: read off F, T and the inverse of T, with no product of polynomials. Row i of F ends its block
 // at row `end`.
-ghost use Rattle.std.specs.Prelude.{◌≡◌, [], false, ◌+◌, ◌*◌, ◌-◌, ◌%◌, ◌≤◌, ◌<◌, get_or, length};
+ghost use Rattle.std.specs.Prelude.{◌≡◌, false, ◌+◌, ◌*◌, ◌-◌, ◌%◌, ◌≤◌, ◌<◌, length};
 ghost use Rattle.forms.specs.Numbers.{at, order_limit};
 ghost use Rattle.matrices.specs.Filling.{filled};
 ghost use Rattle.heads.specs.Heads.{begins};
 ghost use Rattle.entries.specs.PutEntries.{ShortPut};
 ghost use Rattle.entries.specs.Coefficients.{Small, SmallState, Tables, block_coefficient, D_coefficient, P_coefficient, PI_coefficient, head_sum, Q_coefficient, QI_coefficient, side, closed_entry, D_entry, zero_entry};
 
-use basis::remainders::Modulus;
 use basis::steps::State;
 use forms::ORDER;
 use heads::is_head;
-use matrices::{Mat, Row};
+use matrices::{Mat, Order, Row};
+use residues::modulus::Modulus;
 
 // The most coefficients that an entry of D has.
 const COEFFICIENTS: usize = ORDER + 1;
@@ -32,10 +32,9 @@ pub struct Reduction<'a> {
     pub state: &'a State,
     pub from: Row,
     pub last: Row,
-    pub n: usize,
+    pub order: Order,
     pub modulus: Modulus,
-    pub ghost limited: { n ≤ order_limit },
-    pub ghost tables: { Tables n from last },
+    pub ghost tables: { Tables order.n from last },
     pub ghost small: { SmallState modulus.p state.now },
 }
 
@@ -91,22 +90,22 @@ fn side(factor: Factor, r: usize, c: usize) -> usize
 impl Reduction<'_> {
     // The coefficients of P, in row i and column c. Here and below they are put from `start` on, as far as they can be other than zero.
     fn p_entry(&self, out: &mut [u8], start: usize, end: usize, i: usize, c: usize)
-        requires { (start + self.now.n ≤ length out.old) × (end < self.now.n) × (i < self.now.n) × (c < self.now.n) }
-        ensures { ShortPut start self.now.n (P_coefficient (get_or self.now.state.now 2 []) end i c) out.old out.new }
+        requires { (start + self.now.order.n ≤ length out.old) × (end < self.now.order.n) × (i < self.now.order.n) × (c < self.now.order.n) }
+        ensures { ShortPut start self.now.order.n (P_coefficient self.now.state.now.back end i c) out.old out.new }
     {
         for row in i..end + 1 {
-            out[start + row - i] = self.state[2][row][c];
+            out[start + row - i] = self.state.back[row][c];
         }
     }
 
     // The coefficients of the inverse of P, in row r and column i.
     fn pi_entry(&self, out: &mut [u8], start: usize, r: usize, i: usize)
-        requires { (start + self.now.n ≤ length out.old) × (r < self.now.n) × (i < self.now.n) }
-        ensures { ShortPut start self.now.n (PI_coefficient self.now.modulus.p (get_or self.now.state.now 0 []) (get_or self.now.state.now 1 []) r i) out.old out.new }
+        requires { (start + self.now.order.n ≤ length out.old) × (r < self.now.order.n) × (i < self.now.order.n) }
+        ensures { ShortPut start self.now.order.n (PI_coefficient self.now.modulus.p self.now.state.now.b self.now.state.now.t r i) out.old out.new }
     {
-        let t = &self.state[1];
+        let t = &self.state.t;
         out[start] = t[r][i];
-        if is_head(&self.state[0], i) {
+        if is_head(&self.state.b, i) {
             return;
         }
         out[start + 1] = opposite(t[r][i - 1], self.modulus.p);
@@ -115,10 +114,10 @@ impl Reduction<'_> {
     // Row r of T times the polynomial of the block of row i, from coefficient k + 1 on, with the leading 1 first.
     fn head_sum(&self, end: usize, r: usize, i: usize, k: usize) -> u8
         requires { (end < order_limit) × (r < order_limit) × (i + k ≤ end) }
-        ensures { result ≡ head_sum self.now.modulus.p (get_or self.now.state.now 0 []) (get_or self.now.state.now 1 []) end r i k }
+        ensures { result ≡ head_sum self.now.modulus.p self.now.state.now.b self.now.state.now.t end r i k }
     {
-        let f = &self.state[0];
-        let t = &self.state[1];
+        let f = &self.state.b;
+        let t = &self.state.t;
         let mut sum = u32::from(t[r][end - k]);
         for j in i..end - k {
             sum += u32::from(t[r][j]) * u32::from(opposite(f[j + 1 + k][end], self.modulus.p));
@@ -128,8 +127,8 @@ impl Reduction<'_> {
 
     // The coefficients of Q, in row r and the column of row i, which begins a block.
     fn head_entry(&self, out: &mut [u8], start: usize, end: usize, r: usize, i: usize)
-        requires { (start + self.now.n ≤ length out.old) × (end < self.now.n) × (r < self.now.n) × (i < self.now.n) }
-        ensures { ShortPut start self.now.n (head_sum self.now.modulus.p (get_or self.now.state.now 0 []) (get_or self.now.state.now 1 []) end r i) out.old out.new }
+        requires { (start + self.now.order.n ≤ length out.old) × (end < self.now.order.n) × (r < self.now.order.n) × (i < self.now.order.n) }
+        ensures { ShortPut start self.now.order.n (head_sum self.now.modulus.p self.now.state.now.b self.now.state.now.t end r i) out.old out.new }
     {
         for row in i..end + 1 {
             let k = row - i;
@@ -139,23 +138,23 @@ impl Reduction<'_> {
 
     // The coefficients of Q, in row r and column i.
     fn q_entry(&self, out: &mut [u8], start: usize, end: usize, r: usize, i: usize)
-        requires { (start + self.now.n ≤ length out.old) × (end < self.now.n) × (r < self.now.n) × (i < self.now.n) }
-        ensures { ShortPut start self.now.n (Q_coefficient self.now.modulus.p (get_or self.now.state.now 0 []) (get_or self.now.state.now 1 []) end r i) out.old out.new }
+        requires { (start + self.now.order.n ≤ length out.old) × (end < self.now.order.n) × (r < self.now.order.n) × (i < self.now.order.n) }
+        ensures { ShortPut start self.now.order.n (Q_coefficient self.now.modulus.p self.now.state.now.b self.now.state.now.t end r i) out.old out.new }
     {
-        if is_head(&self.state[0], i) {
+        if is_head(&self.state.b, i) {
             self.head_entry(out, start, end, r, i);
             return;
         }
-        out[start] = opposite(self.state[1][r][i - 1], self.modulus.p);
+        out[start] = opposite(self.state.t[r][i - 1], self.modulus.p);
     }
 
     // The coefficients of the inverse of Q, in row i, which begins no block, and column c.
     fn multiple_entry(&self, out: &mut [u8], start: usize, end: usize, i: usize, c: usize)
-        requires { (start + self.now.n ≤ length out.old) × (end < self.now.n) × (i ≤ end) × (c < self.now.n) × (begins (get_or self.now.state.now 0 []) i ≡ false) }
-        ensures { ShortPut start self.now.n (QI_coefficient self.now.modulus.p (get_or self.now.state.now 0 []) (get_or self.now.state.now 2 []) end i c) out.old out.new }
+        requires { (start + self.now.order.n ≤ length out.old) × (end < self.now.order.n) × (i ≤ end) × (c < self.now.order.n) × (begins self.now.state.now.b i ≡ false) }
+        ensures { ShortPut start self.now.order.n (QI_coefficient self.now.modulus.p self.now.state.now.b self.now.state.now.back end i c) out.old out.new }
     {
-        let f = &self.state[0];
-        let ti = &self.state[2];
+        let f = &self.state.b;
+        let ti = &self.state.back;
         let last = ti[end][c];
         let scale = u32::from(last);
         let mut more = u32::from(self.modulus.p - ti[i - 1][c]);
@@ -169,11 +168,11 @@ impl Reduction<'_> {
 
     // The coefficients of the inverse of Q, in row i and column c.
     fn qi_entry(&self, out: &mut [u8], start: usize, end: usize, i: usize, c: usize)
-        requires { (start + self.now.n ≤ length out.old) × (end < self.now.n) × (i ≤ end) × (c < self.now.n) }
-        ensures { ShortPut start self.now.n (QI_coefficient self.now.modulus.p (get_or self.now.state.now 0 []) (get_or self.now.state.now 2 []) end i c) out.old out.new }
+        requires { (start + self.now.order.n ≤ length out.old) × (end < self.now.order.n) × (i ≤ end) × (c < self.now.order.n) }
+        ensures { ShortPut start self.now.order.n (QI_coefficient self.now.modulus.p self.now.state.now.b self.now.state.now.back end i c) out.old out.new }
     {
-        let ti = &self.state[2];
-        if is_head(&self.state[0], i) {
+        let ti = &self.state.back;
+        if is_head(&self.state.b, i) {
             out[start] = ti[end][c];
             return;
         }
@@ -187,8 +186,8 @@ impl Reduction<'_> {
     // The coefficients of the entry (r, c) of P, Q or an inverse. Row i of F, whose block ends at `end`, belongs to row r of P and of the
     // inverse of Q, and to column c of the other two.
     pub fn closed_entry(&self, out: &mut [u8], start: usize, factor: Factor, r: usize, c: usize)
-        requires { (start + self.now.n ≤ length out.old) × (r < self.now.n) × (c < self.now.n) }
-        ensures { ShortPut start self.now.n (closed_entry self.now.modulus.p self.now.state.now self.now.from self.now.last factor r c) out.old out.new }
+        requires { (start + self.now.order.n ≤ length out.old) × (r < self.now.order.n) × (c < self.now.order.n) }
+        ensures { ShortPut start self.now.order.n (closed_entry self.now.modulus.p self.now.state.now self.now.from self.now.last factor r c) out.old out.new }
     {
         let i = usize::from(self.from[side(factor, r, c)]);
         let end = usize::from(self.last[i]);
@@ -202,14 +201,14 @@ impl Reduction<'_> {
 
     // The n + 1 coefficients of entry b of D.
     pub fn d_entry(&self, b: usize) -> Entry
-        requires { b < self.now.n }
-        ensures { result ≡ filled (self.now.n + 1) (D_entry self.now.modulus.p (get_or self.now.state.now 0 []) self.now.from self.now.last b) zero_entry }
+        requires { b < self.now.order.n }
+        ensures { result ≡ filled (self.now.order.n + 1) (D_entry self.now.modulus.p self.now.state.now.b self.now.from self.now.last b) zero_entry }
     {
         let i = usize::from(self.from[b]);
         let end = usize::from(self.last[i]);
         let mut e = [0u8; COEFFICIENTS];
-        for k in 0..self.n + 1 {
-            e[k] = d_coefficient(&self.state[0], i, end, k, self.modulus.p);
+        for k in 0..self.order.n + 1 {
+            e[k] = d_coefficient(&self.state.b, i, end, k, self.modulus.p);
         }
         e
     }

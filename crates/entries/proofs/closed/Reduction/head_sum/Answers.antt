@@ -1,5 +1,5 @@
 -- The sum so far is the leading term and the others up to column j.
-use Rattle.std.proofs.Common.{ℕ, arith, ◌≡◌, ◌∙◌, ◌+◌, ◌*◌, ◌-◌, ◌≤◌, ap, ap₂, mul-le-mul, get_or, []}
+use Rattle.std.proofs.Common.{ℕ, arith, ◌≡◌, ◌∙◌, ◌+◌, ◌*◌, ◌-◌, ◌≤◌, ap, ap₂, mul-le-mul}
 use Rattle.forms.specs.Numbers.{total}
 use Rattle.forms.specs.ClosedForms.{opposite}
 use Rattle.matrices.specs.Matrices.{cell}
@@ -23,7 +23,7 @@ loop-j-preserved c =
     let product : c.from.result * c.from-in-loop-j.result ≤ 65025 = mul-le-mul {n₁ = c.from.result} {m₁ = c.from-in-loop-j.result} {n₂ = 255} {m₂ = 255} (omega arith) (omega arith) in (
       omega arith,
       more_terms _ (l.j - a.i) _ l.invariant.1 (omega arith)
-          (ap₂ ◌*◌ c.from.ensures (c.from-in-loop-j.ensures ∙ c.opposite.ensures) ∙ ap (λ (x : ℕ). cell (get_or a.self.now.state.now 1 []) a.r x * opposite a.self.now.modulus.p (cell (get_or a.self.now.state.now 0 []) (x + 1 + a.k) a.end)) j),
+          (ap₂ ◌*◌ c.from.ensures (c.from-in-loop-j.ensures ∙ c.opposite.ensures) ∙ ap (λ (x : ℕ). cell a.self.now.state.now.t a.r x * opposite a.self.now.modulus.p (cell a.self.now.state.now.b (x + 1 + a.k) a.end)) j),
     )
 
 pub returns : goal.returns
