@@ -9,10 +9,13 @@ ghost use Rattle.forms.specs.LegalRequests.{Legal};
 
 use crate::questions::analysis_asked;
 use elimination::elimination::reduce;
+use entries::closed::Reduction;
 use forms::Refusal;
-use heads::{last_rows, order};
+use heads::last_rows;
+use matrices::Order;
 use matrices::loading::field_matrix;
 use payloads::put_records;
+use residues::modulus::Modulus;
 
 pub mod questions; // what is refused
 
@@ -21,11 +24,17 @@ fn write(p: u8, n: u8, matrix: &[u8], out: &mut [u8]) -> usize
     requires { Legal p n matrix.now × (certificate_length n ≤ length out.old) }
     ensures { (result ≡ certificate_length n) × ((c : Certificate) × (out.new ≡ layout c ++ drop (certificate_length n) out.old) × LaidOut c × Certified p n matrix.now c) }
 {
-    let rows = n as usize;
-    let s = reduce(field_matrix(matrix, rows), rows, p);
-    let from = order(&s[0], rows);
-    let last = last_rows(&s[0], rows);
-    put_records(out, p, n, matrix, &s, &from, &last)
+    let order = Order::new(n as usize);
+    let modulus = Modulus::new(p);
+    let state = reduce(field_matrix(matrix, order), order, modulus);
+    let form = Reduction {
+        state: &state,
+        from: heads::order(&state.b, order),
+        last: last_rows(&state.b, order),
+        order,
+        modulus,
+    };
+    put_records(out, matrix, &form)
 }
 
 // The public operation: refusals 1 to 5 in this order, and else the certificate.
