@@ -83,7 +83,7 @@ pub fn identity(order: Order) -> Mat
 {
     let mut e = [[0u8; ORDER]; ORDER];
     for i in 0..order.n {
-        e[i] = unit_row(i);
+        e[i][i] = 1;
     }
     e
 }
