@@ -2,16 +2,15 @@
 use Rattle.std.proofs.Common.{◌≡◌, ◌<◌, ◌^◌, sym, ◌∙◌, ap, Bool, take, eq-eqb, ne_eqb, rules, arith}
 use Rattle.std.specs.List.{sum}
 use Rattle.forms.specs.Numbers.{at, total}
-use Rattle.forms.specs.Bounds.{degree_limited}
 use Rattle.forms.specs.Tests.{total_equal}
-use Rattle.rules.specs.Diagonal.{total_is, sum_fits}
+use Rattle.rules.specs.Diagonal.{degrees_limited, total_is, sum_fits}
 use Rattle.products.specs.Searches.{failing}
 use Rattle.rules.proofs.diagonal.Diagonal.degrees_rule.Goals as goal
 
 pub sum-sum-requires-clause-fits : goal.sum-sum-requires-clause-fits
 sum-sum-requires-clause-fits c =
     let d = c.args.self.now in
-    let h : sum (take d.order.n d.degrees) < 2 ^ 64 = sum_fits d.degrees d.order.n d.order.limited (omega (arith, d.order.limited)) (λ i l. rw (d.degrees_are i l) (degree_limited _ _)) in
+    let h : sum (take d.order.n d.degrees) < 2 ^ 64 = sum_fits d.degrees d.order.n d.order.limited (omega (arith, d.order.limited)) (degrees_limited _ _ _ d.degrees_are) in
     search rules
 
 pub returns-then-sum-self : goal.returns-then-sum-self
