@@ -9,7 +9,7 @@ use Rattle.std.proofs.lemmas.List.Sums.{sum_by_push}
 use Rattle.forms.specs.Numbers.{at, total, prime, order_limit}
 use Rattle.forms.specs.Polynomials.{Coefficients, degree, monic}
 use Rattle.forms.specs.Matrices.{diagonal}
-use Rattle.forms.specs.Tests.{cond_holds, cond_fails, equal_holds}
+use Rattle.forms.specs.Tests.{cond_holds, cond_fails, equal_holds, total_equal}
 use Rattle.forms.specs.Bounds.{degree_limited, diagonal_at}
 use Rattle.products.specs.Products.{slice_coefficients}
 
@@ -79,8 +79,8 @@ unfolding total
 sum_is_total s zero l = refl
 sum_is_total s (suc n) l = rw (take-suc s n 0) (sum_by_push (λ (x : ℕ). x) (take n s) (at s n) ∙ ap (λ (x : ℕ). x + at s n) (sum_is_total s n (omega arith)))
 
-pub total_is : (s : List ℕ) (n : ℕ) {x : ℕ} → n ≤ length s → x ≡ sum (take n s) → x ≡ total n (at s)
-total_is s n l e = e ∙ sum_is_total s n l
+pub degrees_sum : (n : ℕ) (d s : List ℕ) (x : ℕ) → Degrees n d s → n ≤ length s → x ≡ sum (take n s) → x ≡ total n (λ i. degree n (diagonal n d i))
+degrees_sum n d s x h l e = e ∙ sum_is_total s n l ∙ total_equal n _ _ h
 
 total_bounded : (m n : ℕ) (f : ℕ → ℕ) → ((i : ℕ) → i < n → f i ≤ m) → total n f ≤ n * m
 unfolding total

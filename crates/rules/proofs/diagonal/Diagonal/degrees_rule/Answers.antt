@@ -1,9 +1,7 @@
 -- The degrees are summed, and their total is compared with n.
-use Rattle.std.proofs.Common.{◌≡◌, ◌<◌, ◌^◌, sym, ◌∙◌, ap, Bool, take, eq-eqb, ne_eqb, rules, arith}
+use Rattle.std.proofs.Common.{◌<◌, ◌^◌, sym, ◌∙◌, ap, Bool, take, eq-eqb, ne_eqb, rules, arith}
 use Rattle.std.specs.List.{sum}
-use Rattle.forms.specs.Numbers.{at, total}
-use Rattle.forms.specs.Tests.{total_equal}
-use Rattle.rules.specs.Diagonal.{degrees_limited, total_is, sum_fits}
+use Rattle.rules.specs.Diagonal.{degrees_limited, degrees_sum, sum_fits}
 use Rattle.products.specs.Searches.{failing}
 use Rattle.rules.proofs.diagonal.Diagonal.degrees_rule.Goals as goal
 
@@ -16,11 +14,11 @@ sum-sum-requires-clause-fits c =
 pub returns-then-sum-self : goal.returns-then-sum-self
 returns-then-sum-self c =
     let d = c.args.self.now in
-    let e : c.sum-sum.result ≡ total d.order.n (at d.degrees) = total_is d.degrees d.order.n (omega (arith, d.order.limited)) (search rules) in
-    sym (ap (λ (b : Bool). failing b 3) (eq-eqb _ _ (sym (e ∙ total_equal d.order.n _ _ d.degrees_are) ∙ c.if-sum-self.true)))
+    let e = degrees_sum d.order.n d.bytes.now d.degrees c.sum-sum.result d.degrees_are (omega (arith, d.order.limited)) (search rules) in
+    sym (ap (λ (b : Bool). failing b 3) (eq-eqb _ _ (sym e ∙ c.if-sum-self.true)))
 
 pub returns-else-sum-self : goal.returns-else-sum-self
 returns-else-sum-self c =
     let d = c.args.self.now in
-    let e : c.sum-sum.result ≡ total d.order.n (at d.degrees) = total_is d.degrees d.order.n (omega (arith, d.order.limited)) (search rules) in
-    sym (ap (λ (b : Bool). failing b 3) (ne_eqb _ _ (λ z. c.if-sum-self.false (e ∙ total_equal d.order.n _ _ d.degrees_are ∙ z))))
+    let e = degrees_sum d.order.n d.bytes.now d.degrees c.sum-sum.result d.degrees_are (omega (arith, d.order.limited)) (search rules) in
+    sym (ap (λ (b : Bool). failing b 3) (ne_eqb _ _ (λ z. c.if-sum-self.false (e ∙ z))))
