@@ -1,19 +1,12 @@
 -- Where entries of matrices stand among the bytes: inside their payload, and at small indices.
 use Rattle.std.specs.Prelude.{ℕ, suc, ◌+◌, ◌*◌, ◌≤◌, ◌<◌}
-use Rattle.std.proofs.Common.{suc-le-suc, suc-mul, mul-le-mul, le_refl, arith}
-use Rattle.forms.specs.Numbers.{order_limit}
+use Rattle.std.proofs.Common.{suc-mul, mul-le-mul, le_refl, arith}
 use Rattle.forms.specs.Listed.{row_place}
 
 -- (i, j) is an entry of a matrix of order n
 pub record Inside (n i j : ℕ) : Type 0 where
   pub row : i < n
   pub column : j < n
-
-pub square_small : (n : ℕ) → n ≤ order_limit → n * n ≤ order_limit * order_limit
-square_small n l = mul-le-mul l l
-
-pub cube_small : (n : ℕ) → n ≤ order_limit → n * n * n ≤ order_limit * order_limit * order_limit
-cube_small n l = mul-le-mul (square_small n l) l
 
 module _ (n i j : ℕ) (h : Inside n i j) where
   pub cell_inside : i * n + j < n * n
@@ -25,6 +18,3 @@ module _ (n i j : ℕ) (h : Inside n i j) where
 -- f_i has n + 1 coefficients
 pub diagonal_inside : (n i : ℕ) → i < n → i * suc n + suc n ≤ n * suc n
 diagonal_inside n i l = let a : suc i * suc n ≤ n * suc n = mul-le-mul l (le_refl (suc n)) in let e = suc-mul i (suc n) in omega arith
-
-pub diagonal_size_small : (n : ℕ) → n ≤ order_limit → n * suc n ≤ order_limit * suc order_limit
-diagonal_size_small n l = mul-le-mul l (suc-le-suc l)

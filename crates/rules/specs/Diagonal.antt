@@ -1,16 +1,17 @@
 -- The diagonal's polynomials among their bytes, their degrees as the last coefficients that are not zero, and the sum of these.
-use Rattle.std.specs.Prelude.{◌≡◌, refl, ◌≢◌, List, ℕ, zero, suc, ◌+◌, ◌*◌, ◌^◌, ◌-◌, ◌≤◌, ◌<◌, T, eqb, length, take, drop, sum, Option, Some, None, MatchOption, unwrap_or}
-use Rattle.std.proofs.Common.{sym, ◌∙◌, ap, ap₂, arith, eqb→eq, length-take, length-drop, get_or-take, get_or-drop}
+use Rattle.std.specs.Prelude.{◌≡◌, refl, ◌≢◌, cond, List, ℕ, zero, suc, ◌+◌, ◌*◌, ◌^◌, ◌-◌, ◌≤◌, ◌<◌, T, eqb, ltb, length, take, drop, sum, Option, Some, None, MatchOption, unwrap_or}
+use Rattle.std.proofs.Common.{sym, ◌∙◌, ap, ap₂, arith, eqb→eq}
 use Rattle.std.proofs.Math.Path.{fun_ext}
-use Rattle.std.proofs.Math.Decide.{dec_lt, dec_le, ℕ_discrete}
+use Rattle.std.proofs.Math.Decide.{dec_lt, ℕ_discrete}
 use Rattle.std.proofs.Math.ListN.{get_or-eq_default}
 use Rattle.std.proofs.Math.Seq.{take-suc}
 use Rattle.std.proofs.lemmas.List.Sums.{sum_by_push}
 use Rattle.forms.specs.Numbers.{at, total, prime, order_limit}
 use Rattle.forms.specs.Polynomials.{Coefficients, degree, monic}
 use Rattle.forms.specs.Matrices.{diagonal}
-use Rattle.forms.specs.Tests.{cond_holds, cond_fails, equal_holds}
-use Rattle.forms.specs.Bounds.{diagonal_at, diagonal_short}
+use Rattle.forms.specs.Tests.{cond_holds, cond_fails, equal_holds, total_equal}
+use Rattle.forms.specs.Bounds.{degree_limited, diagonal_at}
+use Rattle.products.specs.Products.{slice_coefficients}
 
 -- the payload of D is residues modulo a prime, with monic polynomials
 pub record MonicPayload (p n : ℕ) (d : List ℕ) : Type 0 where
@@ -26,6 +27,9 @@ pub record CoefficientsOf (n : ℕ) (d : List ℕ) (i : ℕ) (s : List ℕ) : Ty
 -- the degrees of f_1 .. f_n, in code counted from 0
 abbrev pub Degrees : ℕ → List ℕ → List ℕ → Type 0
 Degrees n d s = (i : ℕ) → i < n → at s i ≡ degree n (diagonal n d i)
+
+pub degrees_limited : (n : ℕ) (d s : List ℕ) → Degrees n d s → (i : ℕ) → i < n → at s i ≤ n
+degrees_limited n d s h i l = rw (h i l) (degree_limited _ _)
 
 -- the degree is the last index with a coefficient that is not zero
 degree_at : (n : ℕ) (f : Coefficients) (i : ℕ) → i ≤ n → f i ≢ 0 → ((k : ℕ) → i < k → k ≤ n → f k ≡ 0) → degree n f ≡ i
@@ -60,15 +64,8 @@ degree_is {n} {s = s} of = ap₂ degree last (coefficients_are of)
 
 -- the n + 1 bytes from where f_i starts
 pub coefficients_from : (n : ℕ) (d : List ℕ) (i start count : ℕ) → start ≡ i * suc n → count ≡ suc n → start + suc n ≤ length d → CoefficientsOf n d i (take count (drop start d))
-coefficients_from n d i start count e c l =
-    let long : length (take count (drop start d)) ≡ suc n = simp (length-take, length-drop, c) (omega arith) in
-    record {
-      long = long;
-      coefficient = λ k. elim (dec_le k n) [
-        | yes h ↦ get_or-take count (drop start d) k 0 (omega arith) ∙ get_or-drop start d k 0 ∙ ap (λ (x : ℕ). at d (x + k)) e ∙ sym (diagonal_at n d i k (omega arith))
-        | no h ↦ get_or-eq_default _ 0 {n = k} (omega arith) ∙ sym (diagonal_short n d i k (omega arith))
-      ];
-    }
+unfolding diagonal
+coefficients_from n d i start count e c l = let s = slice_coefficients (suc n) start count d l c in record { long = s.0; coefficient = λ k. s.1 k ∙ ap (λ (x : ℕ). cond (ltb k (suc n)) (at d (x + k)) 0) e }
 
 pub coefficient_small : {p n : ℕ} {d : List ℕ} {i : ℕ} {s : List ℕ} → CoefficientsOf n d i s → ((k : ℕ) → at d k < p) → (k : ℕ) → k ≤ n → at s k < p
 coefficient_small {p} {n} {d} {i} h small k l = rw (h.coefficient k, diagonal_at n d i k (omega arith)) (small _)
@@ -82,8 +79,8 @@ unfolding total
 sum_is_total s zero l = refl
 sum_is_total s (suc n) l = rw (take-suc s n 0) (sum_by_push (λ (x : ℕ). x) (take n s) (at s n) ∙ ap (λ (x : ℕ). x + at s n) (sum_is_total s n (omega arith)))
 
-pub total_is : (s : List ℕ) (n : ℕ) {x : ℕ} → n ≤ length s → x ≡ sum (take n s) → x ≡ total n (at s)
-total_is s n l e = e ∙ sum_is_total s n l
+pub degrees_sum : (n : ℕ) (d s : List ℕ) (x : ℕ) → Degrees n d s → n ≤ length s → x ≡ sum (take n s) → x ≡ total n (λ i. degree n (diagonal n d i))
+degrees_sum n d s x h l e = e ∙ sum_is_total s n l ∙ total_equal n _ _ h
 
 total_bounded : (m n : ℕ) (f : ℕ → ℕ) → ((i : ℕ) → i < n → f i ≤ m) → total n f ≤ n * m
 unfolding total

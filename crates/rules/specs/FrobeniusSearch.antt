@@ -10,13 +10,6 @@ use Rattle.forms.specs.Tests.{cond_holds, cond_fails, equal_holds}
 use Rattle.forms.proofs.Bounds.{frobenius_small}
 use Rattle.forms.proofs.FrobeniusEntries.{blocks_first, blocks_behind, blocks_above, blocks_below}
 
--- the entry (i, j) of the block of f_b, of degree m
-pub record CompanionPlace (p n b m i : ℕ) (d : List ℕ) : Type 0 where
-  pub small : (k : ℕ) → at d k < p
-  pub block : b < n
-  pub degree : m ≤ n
-  pub row : i < m
-
 pub companion_last : (p m : ℕ) (f : Coefficients) (i j x : ℕ) → j + 1 ≡ m → f i ≡ x → (p - x) % p ≡ companion p m f i j
 unfolding companion
 companion_last p m f i j x e g = ap (λ (y : ℕ). (p - y) % p) (sym g) ∙ sym (cond_holds (eqb (suc j) m) _ _ (equal_holds (suc j) m (omega arith)))

@@ -31,12 +31,8 @@ pub fn base_rule(base: &[u8], back: &[u8], order: Order, m: Modulus) -> Result<(
     requires { BasePayloads m.p order.n base.now back.now }
     ensures { result ≡ failing (field_equal m.p order.n (field_product order.n (matrix order.n base.now) (matrix order.n back.now)) unit) 8 }
 {
-    let unit = product(
-        field_matrix(base, order),
-        field_matrix(back, order),
-        order,
-        m,
-    );
+    let t = field_matrix(base, order);
+    let unit = product(t, field_matrix(back, order), order, m);
     differing(unit, identity(order), order, 8)
 }
 

@@ -93,11 +93,10 @@ pub fn smith_rule(
     requires { SmithPayloads m.p d.now.order.n left.now field.now right.now }
     ensures { result ≡ failing (polynomial_equal m.p d.now.order.n (polynomial_product d.now.order.n (polynomial_matrix d.now.order.n left.now) (characteristic m.p (matrix d.now.order.n field.now))) (polynomial_product d.now.order.n (diagonal_matrix (diagonal d.now.order.n d.now.bytes.now)) (polynomial_matrix d.now.order.n right.now))) 6 }
 {
-    let order = d.order;
     let failed = 'rows: {
-        for i in 0..order.n {
-            let line = moved_line(left, field, i, order, m);
-            for j in 0..order.n {
+        for i in 0..d.order.n {
+            let line = moved_line(left, field, i, d.order, m);
+            for j in 0..d.order.n {
                 if !is_returned(&line[j], d, right, i, j, m) {
                     break 'rows Err(6);
                 }

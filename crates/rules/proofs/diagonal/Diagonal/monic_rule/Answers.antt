@@ -1,9 +1,7 @@
 -- Each f_i is tested at its degree, up to the first that is not monic.
 use Rattle.std.proofs.Common.{sym, ◌∙◌, eq-eqb, ne_eqb, arith}
-use Rattle.forms.specs.Matrices.{diagonal}
-use Rattle.forms.specs.Bounds.{degree_limited}
 use Rattle.matrices.specs.Filling.{every_start, every_turn}
-use Rattle.rules.specs.Diagonal.{monic_at}
+use Rattle.rules.specs.Diagonal.{degrees_limited, monic_at}
 use Rattle.products.specs.Searches.{one_failed}
 use Rattle.rules.proofs.diagonal.Diagonal.monic_rule.Goals as goal
 
@@ -11,7 +9,7 @@ pub loop-i-init : goal.loop-i-init
 loop-i-init c = every_start _
 
 pub bounds-polynomial-self : goal.bounds-polynomial-self
-bounds-polynomial-self c = let d = c.args.self.now in let l = c.loop-i in omega (arith, c.polynomial.ensures.long, d.degrees_are l.i c.loop-i-test.true, degree_limited d.order.n (diagonal d.order.n d.bytes.now l.i))
+bounds-polynomial-self c = let d = c.args.self.now in let l = c.loop-i in omega (arith, c.polynomial.ensures.long, degrees_limited _ _ _ d.degrees_are l.i c.loop-i-test.true)
 
 pub returns-then-polynomial-self-ne1 : goal.returns-then-polynomial-self-ne1
 returns-then-polynomial-self-ne1 c =
