@@ -17,7 +17,7 @@ use Rattle.forms.specs.BlockPermutation.{ones, to, from, to_head, to_other_below
 use Rattle.forms.proofs.FrobeniusEntries.{frobenius_last, frobenius_head, frobenius_next}
 use Rattle.matrices.specs.Matrices.{cell}
 use Rattle.basis.specs.State.{Array}
-use Rattle.heads.specs.Heads.{begins, LastRow, other, other_head, other_row, others, others_most, no_others, place, place_head, place_other, Ordered}
+use Rattle.heads.specs.Heads.{begins, LastRow, other, other_is, others, others_most, no_others, place, place_head, place_other, Ordered}
 use Rattle.entries.specs.Coefficients.{block_coefficient}
 use Rattle.payloads.specs.Diagonals.{DiagonalOf}
 
@@ -112,24 +112,31 @@ module _ (p n : ℕ) (m : Array) (f : ℕ → Coefficients) (D : DiagonalOf p n 
         ]
       ]
 
+  -- so it is counted among the others, or it is not
+  counts_none : (i : ℕ) → i < n → is_head d n i ≡ true → 0 ≡ other m i
+  counts_none i l e = other_is m i (sym (begins_is i l ∙ e)) refl
+
+  counts_one : (i : ℕ) → i < n → is_head d n i ≡ false → 1 ≡ other m i
+  counts_one i l e = other_is m i (sym (begins_is i l ∙ e)) refl
+
   -- the blocks counted by the rows that begin none
   block_count : (i : ℕ) → i < n → block d n i + others m (suc i) ≡ ones d n + i
   unfolding ones
-  block_count zero l = let e = total_suc 0 (other m) in let z = no_others m in let q = other_head m 0 (begins_is 0 l ∙ zero_is_head d n sums l) in omega arith
+  block_count zero l = let e = total_suc 0 (other m) in let z = no_others m in let q = counts_none 0 l (zero_is_head d n sums l) in omega arith
   block_count (suc i) l =
       let h = block_count i (omega arith) in let e = total_suc (suc i) (other m) in
       test (is_head d n (suc i)) refl h e
     where
       test : (b : Bool) → is_head d n (suc i) ≡ b → block d n i + others m (suc i) ≡ block d n 0 + i → others m (suc (suc i)) ≡ others m (suc i) + other m (suc i)
           → block d n (suc i) + others m (suc (suc i)) ≡ block d n 0 + suc i
-      test true e h s = let b = block_after i l e in let q = other_head m (suc i) (begins_is (suc i) l ∙ e) in omega arith
-      test false e h s = let b = block_next d n sums i l e in let q = other_row m (suc i) (begins_is (suc i) l ∙ e) in omega arith
+      test true e h s = let b = block_after i l e in let q = counts_none (suc i) l e in omega arith
+      test false e h s = let b = block_next d n sums i l e in let q = counts_one (suc i) l e in omega arith
 
   -- a row that begins no block
   other_place : (i : ℕ) → i < n → is_head d n i ≡ false → to d n i ≡ others m i
   unfolding to
   other_place i l e =
-      let h = block_count i l in let s = total_suc i (other m) in let q = other_row m i (begins_is i l ∙ e) in let b = others_most m i in
+      let h = block_count i l in let s = total_suc i (other m) in let q = counts_one i l e in let b = others_most m i in
       ap (λ (b : Bool). cond b (block d n i) (i + ones d n - suc (block d n i))) e ∙ omega arith
 
   others_few : (k : ℕ) → k ≤ n → others m k ≤ ones d n
@@ -137,9 +144,9 @@ module _ (p n : ℕ) (m : Array) (f : ℕ → Coefficients) (D : DiagonalOf p n 
   others_few (suc i) l = test (is_head d n i) refl (others_few i (omega arith))
     where
       test : (b : Bool) → is_head d n i ≡ b → others m i ≤ ones d n → others m (suc i) ≤ ones d n
-      test true e h = let s = total_suc i (other m) in let q = other_head m i (begins_is i l ∙ e) in omega arith
+      test true e h = let s = total_suc i (other m) in let q = counts_none i l e in omega arith
       test false e few =
-          let s = total_suc i (other m) in let q = other_row m i (begins_is i l ∙ e) in let t = other_place i l e in
+          let s = total_suc i (other m) in let q = counts_one i l e in let t = other_place i l e in
           let h = to_other_below d n sums low D.smith.rising i l e in omega arith
 
   ones_are : others m n ≡ ones d n
@@ -152,7 +159,7 @@ module _ (p n : ℕ) (m : Array) (f : ℕ → Coefficients) (D : DiagonalOf p n 
     where
       test : (b : Bool) → is_head d n i ≡ b → place m n i ≡ to d n i
       test true e =
-          let h = block_count i l in let s = total_suc i (other m) in let q = other_head m i (begins_is i l ∙ e) in let b = others_most m i in let z = ones_are in
+          let h = block_count i l in let s = total_suc i (other m) in let q = counts_none i l e in let b = others_most m i in let z = ones_are in
           place_head m n i (begins_is i l ∙ e) ∙ omega arith ∙ sym (to_head d n sums low D.smith.rising i e)
       test false e = place_other m n i (begins_is i l ∙ e) ∙ sym (other_place i l e)
 

@@ -1,5 +1,5 @@
 -- The coefficients that the code computes are those of D and of the closed forms for P, Q and their inverses.
-use Rattle.std.specs.Prelude.{◌≡◌, Bool, List, [], eqb, leb, get_or}
+use Rattle.std.specs.Prelude.{◌≡◌, Bool, List, eqb, leb}
 use Rattle.std.proofs.Math.Path.{refl, ap, ap₂}
 use Rattle.std.proofs.Common.{sym, ◌∙◌, eqb→eq}
 use Rattle.std.proofs.Math.Bool.{true, false, cond}
@@ -16,7 +16,8 @@ use Rattle.forms.specs.BlockIndices.{degrees, start, block, last, position, is_h
 use Rattle.forms.specs.BlockPermutation.{to, from, to_head, to_other_below, one_degree, to_permutes}
 use Rattle.forms.specs.ClosedForms.{opposite, P_row, PI_column, Q_column, QI_row, closed_P, closed_PI, closed_Q, closed_QI}
 use Rattle.matrices.specs.Matrices.{cell}
-use Rattle.basis.specs.State.{Array, State}
+use Rattle.basis.specs.State.{Array}
+use Rattle.basis.specs.declared.steps.State.{State}
 use Rattle.heads.specs.Heads.{begins, LastRows, Ordered}
 use Rattle.entries.specs.declared.closed.Factor.TheVariants.{P, PInverse, Q, QInverse}
 use Rattle.entries.specs.Coefficients.{block_coefficient, D_coefficient, D_entry, P_coefficient, PI_coefficient, head_sum, Q_coefficient, QI_coefficient, closed_coefficient, closed_entry}
@@ -117,29 +118,29 @@ module _ (p n : ℕ) (F : Array) (f : ℕ → Coefficients) (D : DiagonalOf p n 
             constant k (one_degree d n sums low D.smith.rising b (omega arith))
 
 -- the state of the elimination, with the entries of T and of its inverse
-module _ (p n : ℕ) (s : State) (f : ℕ → Coefficients) (D : DiagonalOf p n (get_or s 0 []) f) (rows ends : List ℕ) (ordered : Ordered (get_or s 0 []) n n rows) (ending : LastRows (get_or s 0 []) n 0 ends)
-    (T TI : Entries) (T_holds : Holds n (get_or s 1 []) T) (TI_holds : Holds n (get_or s 2 []) TI) (r c k : ℕ) (l : r < n) (g : c < n) where
+module _ (p n : ℕ) (s : State) (f : ℕ → Coefficients) (D : DiagonalOf p n s.b f) (rows ends : List ℕ) (ordered : Ordered s.b n n rows) (ending : LastRows s.b n 0 ends)
+    (T TI : Entries) (T_holds : Holds n s.t T) (TI_holds : Holds n s.back TI) (r c k : ℕ) (l : r < n) (g : c < n) where
   row_is : (b : ℕ) → b < n → at rows b ≡ from (degrees n f) n b
-  row_is = row p n (get_or s 0 []) f D rows ends ordered ending
+  row_is = row p n s.b f D rows ends ordered ending
 
   end_is : (b : ℕ) → b < n → at ends (at rows b) ≡ last (degrees n f) n (from (degrees n f) n b)
-  end_is = end p n (get_or s 0 []) f D rows ends ordered ending
+  end_is = end p n s.b f D rows ends ordered ending
 
   below : (b : ℕ) → b < n → from (degrees n f) n b < n
-  below = row_below p n (get_or s 0 []) f D rows ends ordered ending
+  below = row_below p n s.b f D rows ends ordered ending
 
   pub PL_is : closed_entry p s rows ends P r c k ≡ closed_P n f TI r c k
   unfolding closed_entry closed_coefficient closed_P
-  PL_is = rw (end_is r l, row_is r l) (P_row_is p n (get_or s 0 []) f D (get_or s 2 []) TI TI_holds _ c k (below r l) g)
+  PL_is = rw (end_is r l, row_is r l) (P_row_is p n s.b f D s.back TI TI_holds _ c k (below r l) g)
 
   pub PI_is : closed_entry p s rows ends PInverse r c k ≡ closed_PI p n f T r c k
   unfolding closed_entry closed_coefficient closed_PI
-  PI_is = rw (row_is c g) (PI_column_is p n (get_or s 0 []) f D (get_or s 1 []) T T_holds r _ k l (below c g))
+  PI_is = rw (row_is c g) (PI_column_is p n s.b f D s.t T T_holds r _ k l (below c g))
 
   pub QR_is : closed_entry p s rows ends Q r c k ≡ closed_Q p n f T r c k
   unfolding closed_entry closed_coefficient closed_Q
-  QR_is = rw (end_is c g, row_is c g) (Q_column_is p n (get_or s 0 []) f D (get_or s 1 []) T T_holds r _ k l (below c g))
+  QR_is = rw (end_is c g, row_is c g) (Q_column_is p n s.b f D s.t T T_holds r _ k l (below c g))
 
   pub QI_is : closed_entry p s rows ends QInverse r c k ≡ closed_QI p n f TI r c k
   unfolding closed_entry closed_coefficient closed_QI
-  QI_is = rw (end_is r l, row_is r l) (QI_row_is p n (get_or s 0 []) f D (get_or s 2 []) TI TI_holds _ c k (below r l) g)
+  QI_is = rw (end_is r l, row_is r l) (QI_row_is p n s.b f D s.back TI TI_holds _ c k (below r l) g)

@@ -1,9 +1,9 @@
 -- The certificate that the code writes, from the matrix, the state of the elimination and the tables of its blocks: it is laid out, and it is
 -- a certificate of the matrix.
-use Rattle.std.specs.Prelude.{◌≡◌, refl, List, [], ◌∷◌, length, get_or}
+use Rattle.std.specs.Prelude.{◌≡◌, List, length}
 use Rattle.std.proofs.Math.Path.{sym, subst}
 use Rattle.std.proofs.Common.{◌∙◌, ap, ap₂, add-one, arith}
-use Prim.Native.Nat.{ℕ, suc, ◌+◌, ◌*◌, ◌-◌, ◌%◌, ◌≤◌, ◌<◌}
+use Prim.Native.Nat.{ℕ, suc, ◌+◌, ◌*◌, ◌%◌, ◌≤◌, ◌<◌}
 use Rattle.std.proofs.Math.Decide.{dec_lt}
 use Rattle.algebra.specs.Modular.{Prime}
 use Rattle.forms.specs.Numbers.{at, total, order_limit}
@@ -13,8 +13,7 @@ use Rattle.forms.specs.Polynomials.{Coefficients, degree}
 use Rattle.forms.specs.Matrices.{Entries, PolynomialEntries, unit, diagonal, field_product}
 use Rattle.forms.specs.Matrices as definitions
 use Rattle.forms.specs.Frobenius.{frobenius}
-use Rattle.forms.specs.Certificate.{Certificate, payload, joined, size}
-use Rattle.forms.proofs.Records.{ten_cases}
+use Rattle.forms.specs.Certificate.{Certificate, joined}
 use Rattle.forms.specs.Words.{FieldEqual, PolynomialDivides, Residues, LaidOut, Certified}
 use Rattle.forms.proofs.Payloads.{MA_residues}
 use Rattle.forms.specs.Bounds.{degree_limited}
@@ -26,13 +25,14 @@ use Rattle.forms.specs.ClosedForms.{closed_P, closed_PI, closed_Q, closed_QI}
 use Rattle.forms.specs.Certifying.{Decomposes, closed_certificate}
 use Rattle.forms.proofs.Certifying.{closed_forms_certify}
 use Rattle.matrices.specs.Matrices.{cell, matrix, FieldMatrix}
-use Rattle.basis.specs.State.{Array, State, Fields}
+use Rattle.basis.specs.State.{Array, Fields}
+use Rattle.basis.specs.declared.steps.State.{State}
 use Rattle.elimination.specs.Reduced.{Reduced}
 use Rattle.heads.specs.Heads.{LastRows, Ordered}
 use Rattle.entries.specs.declared.closed.Factor.{Factor}
 use Rattle.entries.specs.declared.closed.Factor.TheVariants.{P, PInverse, Q, QInverse}
 use Rattle.entries.specs.declared.closed.Reduction.{Reduction}
-use Rattle.entries.specs.Coefficients.{Small, SmallState, Tables, D_entry, closed_entry, record_of}
+use Rattle.entries.specs.Coefficients.{Small, SmallState, Tables, D_entry, closed_entry}
 use Rattle.entries.specs.Listing.{listed_equal, joined_equal, matrix_rows, polynomial_rows, polynomials_listed_equal, diagonal_listed, diagonal_rows, diagonal_listed_residues, diagonal_of_listed}
 use Rattle.payloads.specs.Diagonals.{DiagonalOf, diagonal_of_form}
 use Rattle.payloads.specs.ClosedCoefficients.{Holds, D_is, PL_is, PI_is, QR_is, QI_is}
@@ -52,60 +52,27 @@ written p n A s rows ends = record {
   p = p;
   n = n;
   MA = A;
-  DF = diagonal_payload p n (get_or s 0 []) rows ends;
+  DF = diagonal_payload p n s.b rows ends;
   PL = polynomial_payload p n s rows ends P;
   PI = polynomial_payload p n s rows ends PInverse;
   QR = polynomial_payload p n s rows ends Q;
   QI = polynomial_payload p n s rows ends QInverse;
-  FB = matrix_payload n (get_or s 0 []);
-  TB = matrix_payload n (get_or s 1 []);
-  TI = matrix_payload n (get_or s 2 []);
+  FB = matrix_payload n s.b;
+  TB = matrix_payload n s.t;
+  TI = matrix_payload n s.back;
 }
 
 -- the same of a reduction and the matrix that it was made of
 abbrev pub certificate_of : Reduction → List ℕ → Certificate
-certificate_of form A = written form.modulus.p form.n A form.state.now form.from form.last
-
--- its payloads, by their numbers, with their sizes
-module _ (form : Reduction) (A : List ℕ) (k : ℕ) where
-  abbrev Payload : ℕ → List ℕ → ℕ → Type 0
-  Payload k bytes many = (bytes ≡ payload (certificate_of form A) k) × (size form.n k ≡ many)
-
-  pub header_payload : k ≡ 0 → Payload k (form.modulus.p ∷ form.n ∷ []) 2
-  unfolding payload size written
-  header_payload e = subst (λ (i : ℕ). Payload i (form.modulus.p ∷ form.n ∷ []) 2) (sym e) (refl, refl)
-
-  pub given_payload : k ≡ 1 → Payload k A (form.n * form.n)
-  unfolding payload size written
-  given_payload e = subst (λ (i : ℕ). Payload i A (form.n * form.n)) (sym e) (refl, refl)
-
-  pub smith_payload : k ≡ 2 → Payload k (diagonal_payload form.modulus.p form.n (get_or form.state.now 0 []) form.from form.last) (form.n * suc form.n)
-  unfolding payload size written
-  smith_payload e = subst (λ (i : ℕ). Payload i (diagonal_payload form.modulus.p form.n (get_or form.state.now 0 []) form.from form.last) (form.n * suc form.n)) (sym e) (refl, refl)
-
-  pub closed_payload : (factor : Factor) → k ≡ record_of factor → Payload k (polynomial_payload form.modulus.p form.n form.state.now form.from form.last factor) (form.n * form.n * form.n)
-  unfolding payload size written record_of
-  closed_payload factor e = subst (λ (i : ℕ). Payload i (polynomial_payload form.modulus.p form.n form.state.now form.from form.last factor) (form.n * form.n * form.n)) (sym e) (each factor)
-    where
-      each : (factor : Factor) → Payload (record_of factor) (polynomial_payload form.modulus.p form.n form.state.now form.from form.last factor) (form.n * form.n * form.n)
-      each P = (refl, refl)
-      each PInverse = (refl, refl)
-      each Q = (refl, refl)
-      each QInverse = (refl, refl)
-
-  pub field_payload : 7 ≤ k → k < 10 → Payload k (matrix_payload form.n (get_or form.state.now (k - 7) [])) (form.n * form.n)
-  unfolding payload size written
-  field_payload l h = ten_cases (λ i. 7 ≤ i → Payload i (matrix_payload form.n (get_or form.state.now (i - 7) [])) (form.n * form.n))
-      (λ a. absurd (omega arith)) (λ a. absurd (omega arith)) (λ a. absurd (omega arith)) (λ a. absurd (omega arith)) (λ a. absurd (omega arith)) (λ a. absurd (omega arith)) (λ a. absurd (omega arith))
-      (λ a. (refl, refl)) (λ a. (refl, refl)) (λ a. (refl, refl)) k h l
+certificate_of form A = written form.modulus.p form.order.n A form.state.now form.from form.last
 
 -- what is laid out says of the order and of the matrix
 module _ (form : Reduction) (A : List ℕ) (laid : LaidOut (certificate_of form A)) where
-  pub written_order : form.n ≤ order_limit
+  pub written_order : form.order.n ≤ order_limit
   unfolding written
   written_order = laid.high
 
-  pub written_length : length A ≡ form.n * form.n
+  pub written_length : length A ≡ form.order.n * form.order.n
   unfolding written
   written_length = (MA_residues (certificate_of form A) laid).many
 
@@ -140,15 +107,15 @@ unfolding field_product
 product_equal n A B C D x y i j l g = total_equal n _ _ (λ k h. ap₂ ◌*◌ (x i k l h) (y k j h g))
 
 module _ (p n : ℕ) (A : List ℕ) (legal : Legal p n A) (M : Array) (given : Holds n M (definitions.matrix n A)) (s : State) (reduced : Reduced p n M s) (rows ends : List ℕ)
-    (ordered : Ordered (get_or s 0 []) n n rows) (ending : LastRows (get_or s 0 []) n 0 ends) where
+    (ordered : Ordered s.b n n rows) (ending : LastRows s.b n 0 ends) where
   abbrev F : Array
-  F = get_or s 0 []
+  F = s.b
 
   abbrev T : Array
-  T = get_or s 1 []
+  T = s.t
 
   abbrev TI : Array
-  TI = get_or s 2 []
+  TI = s.back
 
   prime_modulus : Prime p
   prime_modulus = prime_means p legal.prime_p

@@ -1,5 +1,5 @@
 -- The loop: the first b entries of D are put.
-use Rattle.std.proofs.Common.{ℕ, List, ◌≡◌, ◌+◌, ◌*◌, ◌≤◌, length, take, length-take-le, arith, get_or, []}
+use Rattle.std.proofs.Common.{ℕ, List, ◌≡◌, ◌+◌, ◌*◌, ◌≤◌, length, take, length-take-le, arith}
 use Rattle.forms.specs.Listed.{listed, listed_length}
 use Rattle.writing.specs.Put.{puts_bytes}
 use Rattle.entries.specs.Coefficients.{D_entry}
@@ -12,19 +12,19 @@ rows : (at n : ℕ) (entry : ℕ → ℕ → ℕ) (out : List ℕ) → at + n * 
 rows at n entry out room = record { long = λ b. listed_length _ _; room = room }
 
 pub loop-b-init : goal.loop-b-init
-loop-b-init c = rows_start (rows c.args.at c.args.form.now.n (D_entry c.args.form.now.modulus.p (get_or c.args.form.now.state.now 0 []) c.args.form.now.from c.args.form.now.last) c.args.out.now c.requires)
+loop-b-init c = rows_start (rows c.args.at c.args.form.now.order.n (D_entry c.args.form.now.modulus.p c.args.form.now.state.now.b c.args.form.now.from c.args.form.now.last) c.args.out.now c.requires)
 
 pub put_bytes-next-requires : goal.put_bytes-next-requires
 put_bytes-next-requires c =
-    let many : length (take (c.args.form.now.n + 1) c.d_entry-entry.result) ≡ c.args.form.now.n + 1 = length-take-le _ _ (omega arith) in
-    let room = rows_room (rows c.args.at c.args.form.now.n (D_entry c.args.form.now.modulus.p (get_or c.args.form.now.state.now 0 []) c.args.form.now.from c.args.form.now.last) c.args.out.now c.requires) (omega arith) c.loop-b.invariant c.loop-b.auto.out in
+    let many : length (take (c.args.form.now.order.n + 1) c.d_entry-entry.result) ≡ c.args.form.now.order.n + 1 = length-take-le _ _ (omega arith) in
+    let room = rows_room (rows c.args.at c.args.form.now.order.n (D_entry c.args.form.now.modulus.p c.args.form.now.state.now.b c.args.form.now.from c.args.form.now.last) c.args.out.now c.requires) (omega arith) c.loop-b.invariant c.loop-b.auto.out in
     omega (arith, many, room)
 
 pub loop-b-preserved : goal.loop-b-preserved
 loop-b-preserved c =
     let entry = c.d_entry-entry in
-    let bytes = filled_listed (c.args.form.now.n + 1) _ _ entry.ensures (length-take-le _ _ (omega arith)) in
-    rows_turn (rows c.args.at c.args.form.now.n (D_entry c.args.form.now.modulus.p (get_or c.args.form.now.state.now 0 []) c.args.form.now.from c.args.form.now.last) c.args.out.now c.requires) (omega arith) c.loop-b.invariant (puts_bytes bytes c.put_bytes-next.ensures)
+    let bytes = filled_listed (c.args.form.now.order.n + 1) _ _ entry.ensures (length-take-le _ _ (omega arith)) in
+    rows_turn (rows c.args.at c.args.form.now.order.n (D_entry c.args.form.now.modulus.p c.args.form.now.state.now.b c.args.form.now.from c.args.form.now.last) c.args.out.now c.requires) (omega arith) c.loop-b.invariant (puts_bytes bytes c.put_bytes-next.ensures)
 
 pub returns : goal.returns
-returns c = rows_end (rows c.args.at c.args.form.now.n (D_entry c.args.form.now.modulus.p (get_or c.args.form.now.state.now 0 []) c.args.form.now.from c.args.form.now.last) c.args.out.now c.requires) (omega arith) (omega arith) c.loop-b.invariant
+returns c = rows_end (rows c.args.at c.args.form.now.order.n (D_entry c.args.form.now.modulus.p c.args.form.now.state.now.b c.args.form.now.from c.args.form.now.last) c.args.out.now c.requires) (omega arith) (omega arith) c.loop-b.invariant

@@ -6,4 +6,4 @@ use Rattle.entries.specs.Coefficients.{closed_entry}
 use Rattle.payloads.proofs.put_polynomials.Given as goal
 
 abbrev pub invariant-loop-r : goal.invariant-loop-r
-invariant-loop-r l = Puts l.at (joined l.r (λ r. joined l.form.n (λ c. listed l.form.n (closed_entry l.form.modulus.p l.form.state.now l.form.from l.form.last l.factor r c)))) l.initial.out l.out l.next
+invariant-loop-r l = Puts l.at (joined l.r (λ r. joined l.form.order.n (λ c. listed l.form.order.n (closed_entry l.form.modulus.p l.form.state.now l.form.from l.form.last l.factor r c)))) l.initial.out l.out l.next

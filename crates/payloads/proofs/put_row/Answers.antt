@@ -5,7 +5,7 @@ use Rattle.entries.specs.Listing.{taken_listed}
 use Rattle.payloads.proofs.put_row.Goals as goal
 
 pub put_bytes-requires : goal.put_bytes-requires
-put_bytes-requires c = let many : length (take c.args.n c.args.row.now) ≡ c.args.n = length-take-le _ _ (omega arith) in omega (arith, many)
+put_bytes-requires c = let many : length (take c.args.order.n c.args.row.now) ≡ c.args.order.n = length-take-le _ _ (omega arith) in omega (arith, many)
 
 pub returns : goal.returns
-returns c = puts_bytes (taken_listed c.args.n _ (length-take-le _ _ (omega arith))) c.put_bytes.ensures
+returns c = puts_bytes (taken_listed c.args.order.n _ (length-take-le _ _ (omega arith))) c.put_bytes.ensures
