@@ -89,9 +89,6 @@ module _ (s m found : List ℕ) (finds : Finds s m found) where
   unfolding part_found start_found
   found_something kind marks some e f = record { start_is = e ∙ go (reading s) refl; many_is = f ∙ ap length finds.answered }
     where
-      abbrev k : ℕ
-      k = number_of kind
-
-      go : (q : Asked) → reading s ≡ q → offset (at s 5) k + 4 ≡ start_found q s m
-      go fine r = sym (ap (start_marked 10 s) (is_the_mark m k (number_small kind) marks) ∙ start_of_mark s k (number_small kind) 10 (number_small kind) (omega arith))
+      go : (q : Asked) → reading s ≡ q → offset (at s 5) (number_of kind) + 4 ≡ start_found q s m
+      go fine r = sym (ap (start_marked 10 s) (is_the_mark m (number_of kind) (number_small kind) marks) ∙ start_of_mark s (number_of kind) (number_small kind) 10 (number_small kind) (omega arith))
       go (refuse number place) r = absurd (some (ap length (finds.answered ∙ ap (λ (q : Asked). part_found q s m) r)))
