@@ -13,14 +13,14 @@ loop-j-init c = every_start _
 
 pub loop-j-preserved : goal.loop-j-preserved
 loop-j-preserved c =
-    let a = c.args in
-    every_turn _ _ c.loop-j.invariant (sym (built_entry a.m.p a.d.now.order.n a.d.now.bytes.now a.field.now c.requires c.loop-i.i c.loop-j.j _ _ c.field_entry.ensures c.frobenius_entry.ensures) ∙ eq-eqb _ _ c.if-field_entry-frobenius_entry.false)
+    let a = c.args in let d = a.d.now in
+    every_turn _ _ c.loop-j.invariant (sym (built_entry a.m.p d.order.n d.bytes.now a.field.now c.requires c.loop-i.i c.loop-j.j _ _ c.field_entry.ensures c.frobenius_entry.ensures) ∙ eq-eqb _ _ c.if-field_entry-frobenius_entry.false)
 
 pub loop-i-preserved : goal.loop-i-preserved
 loop-i-preserved c = let l = c.loop-j in every_turn _ _ c.loop-i.invariant (every_all _ _ l.j l.invariant l.auto.j-end c.loop-j-test.false)
 
 pub returns-then-field_entry-frobenius_entry : goal.returns-then-field_entry-frobenius_entry
 returns-then-field_entry-frobenius_entry c =
-    let a = c.args in
-    entry_failed a.d.now.order.n (built_test a.m.p a.d.now.order.n a.d.now.bytes.now a.field.now) 7 c.loop-i.i c.loop-j.j c.loop-i-test.true c.loop-j-test.true
-    (sym (built_entry a.m.p a.d.now.order.n a.d.now.bytes.now a.field.now c.requires c.loop-i.i c.loop-j.j _ _ c.field_entry.ensures c.frobenius_entry.ensures) ∙ ne_eqb _ _ c.if-field_entry-frobenius_entry.true)
+    let a = c.args in let d = a.d.now in
+    entry_failed d.order.n (built_test a.m.p d.order.n d.bytes.now a.field.now) 7 c.loop-i.i c.loop-j.j c.loop-i-test.true c.loop-j-test.true
+    (sym (built_entry a.m.p d.order.n d.bytes.now a.field.now c.requires c.loop-i.i c.loop-j.j _ _ c.field_entry.ensures c.frobenius_entry.ensures) ∙ ne_eqb _ _ c.if-field_entry-frobenius_entry.true)

@@ -22,8 +22,8 @@ is_returned-requires c = (record { row = c.loop-i-test.true; column = c.loop-j-t
 
 pub loop-j-preserved : goal.loop-j-preserved
 loop-j-preserved c =
-    let a = c.args in
-    every_turn _ _ c.loop-j.invariant (line_test a.m.p (suc (2 * a.d.now.order.n)) _ _ _ c.moved_line-line.ensures _ c.loop-j-test.true (returned_entries a.d.now.order.n a.d.now.bytes.now a.right.now c.loop-i.i c.loop-j.j) _ c.is_returned.ensures ∙ c.if-not-is_returned.false)
+    let a = c.args in let d = a.d.now in
+    every_turn _ _ c.loop-j.invariant (line_test a.m.p (suc (2 * d.order.n)) _ _ _ c.moved_line-line.ensures _ c.loop-j-test.true (returned_entries d.order.n d.bytes.now a.right.now c.loop-i.i c.loop-j.j) _ c.is_returned.ensures ∙ c.if-not-is_returned.false)
 
 pub loop-i-preserved : goal.loop-i-preserved
 loop-i-preserved c = let l = c.loop-j in every_turn _ _ c.loop-i.invariant (every_all _ _ l.j l.invariant l.auto.j-end c.loop-j-test.false)
@@ -33,6 +33,6 @@ returns-after-loop-i c = let l = c.loop-i in all_passed _ _ 6 l.i l.invariant l.
 
 pub returns-then-not-is_returned : goal.returns-then-not-is_returned
 returns-then-not-is_returned c =
-    let a = c.args in
-    entry_failed a.d.now.order.n (smith_entry_test a.m.p a.d.now.order.n a.left.now a.field.now a.d.now.bytes.now a.right.now) 6 c.loop-i.i c.loop-j.j c.loop-i-test.true c.loop-j-test.true
-    (line_test a.m.p (suc (2 * a.d.now.order.n)) _ _ _ c.moved_line-line.ensures _ c.loop-j-test.true (returned_entries a.d.now.order.n a.d.now.bytes.now a.right.now c.loop-i.i c.loop-j.j) _ c.is_returned.ensures ∙ c.if-not-is_returned.true)
+    let a = c.args in let d = a.d.now in
+    entry_failed d.order.n (smith_entry_test a.m.p d.order.n a.left.now a.field.now d.bytes.now a.right.now) 6 c.loop-i.i c.loop-j.j c.loop-i-test.true c.loop-j-test.true
+    (line_test a.m.p (suc (2 * d.order.n)) _ _ _ c.moved_line-line.ensures _ c.loop-j-test.true (returned_entries d.order.n d.bytes.now a.right.now c.loop-i.i c.loop-j.j) _ c.is_returned.ensures ∙ c.if-not-is_returned.true)
