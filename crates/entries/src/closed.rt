@@ -28,6 +28,7 @@ pub enum Factor {
 }
 
 // A matrix of order n in its Frobenius form: F, T and the inverse of T, the row of F for each row of D, and the end of each row's block.
+#[derive(Clone, Copy)]
 pub struct Reduction<'a> {
     pub state: &'a State,
     pub from: Row,
