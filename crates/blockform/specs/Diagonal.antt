@@ -1,31 +1,14 @@
--- What the listing says of D: where a polynomial leads, and where its first coefficient that is not 0 stands.
-use Rattle.std.specs.Prelude.{◌≡◌, Bool, true, false, cond, List, ℕ, zero, suc, ◌+◌, ◌*◌, ◌-◌, ◌≤◌, ◌<◌, eqb, length}
+-- What the listing says of D: where a polynomial's first coefficient that is not 0 stands, and the lead.
+use Rattle.std.specs.Prelude.{◌≡◌, Bool, true, false, cond, List, ℕ, zero, suc, ◌+◌, ◌*◌, ◌-◌, ◌≤◌, ◌<◌, eqb, length, Option, Some, None, MatchOption, unwrap_or, ◌≢◌}
 use Rattle.std.proofs.Math.Path.{refl, ap}
 use Rattle.std.proofs.Common.{sym, ◌∙◌, ap₂, add-one, arith, eq-eqb, ne_eqb}
 use Rattle.forms.specs.Numbers.{at, total}
-use Rattle.forms.specs.Polynomials.{Coefficients, degree, exponent}
+use Rattle.forms.specs.Polynomials.{Coefficients, exponent}
 use Rattle.forms.specs.Matrices.{diagonal}
 use Rattle.forms.specs.Frobenius.{lead}
 use Rattle.forms.specs.Bounds.{diagonal_at}
 use Rattle.forms.specs.Tests.{total_suc}
 use Rattle.blockform.specs.Rows.{row_of, HasRow, row_length, row_at}
-
--- looking for the last coefficient that is not 0, from coefficient k down
-pub degree_found : (f : Coefficients) (k : ℕ) → 0 < k → (f k ≡ 0 → ⊥) → degree k f ≡ k
-unfolding degree
-degree_found f zero l h = absurd (omega arith)
-degree_found f (suc k) l h = ap (λ (b : Bool). cond b (degree k f) (suc k)) (ne_eqb (f (suc k)) 0 h)
-
-pub degree_before : (f : Coefficients) (k : ℕ) → 0 < k → f k ≡ 0 → degree k f ≡ degree (k - 1) f
-unfolding degree
-degree_before f zero l h = absurd (omega arith)
-degree_before f (suc k) l h =
-    let e : k ≡ suc k - 1 = omega arith in
-    ap (λ (b : Bool). cond b (degree k f) (suc k)) (eq-eqb (f (suc k)) 0 h) ∙ ap (λ (x : ℕ). degree x f) e
-
-pub degree_constant : (f : Coefficients) (k : ℕ) → k ≡ 0 → degree k f ≡ 0
-unfolding degree
-degree_constant f k e = ap (λ (x : ℕ). degree x f) e
 
 -- the first k coefficients are 0, and the next, if there is one, is not
 pub exponent_found : (n : ℕ) (f : Coefficients) (k : ℕ) → k ≤ n → ((i : ℕ) → i < k → f i ≡ 0) → (k < n → f k ≡ 0 → ⊥) → exponent n f ≡ k
@@ -34,6 +17,14 @@ exponent_found zero f k l z h = omega arith
 exponent_found (suc n) f zero l z h = ap (λ (b : Bool). cond b (suc (exponent n (λ i. f (suc i)))) 0) (ne_eqb (f 0) 0 (h (omega arith)))
 exponent_found (suc n) f (suc k) l z h = ap (λ (b : Bool). cond b (suc (exponent n (λ i. f (suc i)))) 0) (eq-eqb (f 0) 0 (z 0 (omega arith)))
     ∙ ap suc (exponent_found n (λ i. f (suc i)) k (omega arith) (λ i m. z (suc i) (omega arith)) (λ m. h (omega arith)))
+
+-- r is the first index of s with a number that is not 0
+abbrev pub FirstNonzero : List ℕ → Option ℕ → Type 0
+FirstNonzero s r = MatchOption r ((k : ℕ) → k < length s → at s k ≡ 0) (λ i. (i < length s) × (at s i ≢ 0) × ((k : ℕ) → k < i → at s k ≡ 0))
+
+pub exponent_first : (s : List ℕ) (r : Option ℕ) → FirstNonzero s r → unwrap_or r (length s) ≡ exponent (length s) (at s)
+exponent_first s None h = sym (exponent_found (length s) (at s) (length s) (omega arith) h (λ m. absurd (omega arith)))
+exponent_first s (Some i) h = sym (exponent_found (length s) (at s) i (omega (arith, h.0)) h.2 (λ m. h.1))
 
 pub exponent_limited : (n : ℕ) (f : Coefficients) → exponent n f ≤ n
 unfolding exponent

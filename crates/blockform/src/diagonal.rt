@@ -15,13 +15,6 @@ pub fn row<'a>(s: &'a [u8], i: usize, width: usize) -> &'a [u8]
     &s[start..start + width]
 }
 
-// The degree of the polynomial with these coefficients.
-pub fn degree_of(f: &[u8]) -> usize
-    ensures { result ≡ degree (length f.now - 1) (at f.now) }
-{
-    f.iter().rposition(|c| *c != 0).unwrap_or(0)
-}
-
 // The exponent of X in the polynomial with these coefficients.
 fn exponent_of(f: &[u8]) -> usize
     ensures { result ≡ exponent (length f.now) (at f.now) }

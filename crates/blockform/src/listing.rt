@@ -1,7 +1,8 @@
 // The listing of document 01: p and n, D with the coefficients up to the leading one, F row by row, and the lead.
 ghost use Rattle.std.specs.Prelude.{◌≡◌, ◌+◌, ◌*◌, ◌<◌, length};
 
-use crate::diagonal::{degree_of, lead_of, row};
+use crate::diagonal::{lead_of, row};
+use polynomials::degree_of;
 use std::io;
 
 // A letter, an index and numbers.
@@ -13,13 +14,19 @@ fn print_line(rt: &impl Print, letter: &str, index: usize, numbers: &[u8]) -> io
     println!(rt; "")
 }
 
+// The coefficients up to the leading one.
+fn print_polynomial(rt: &impl Print, index: usize, f: &[u8]) -> io::Result<()>
+    requires { 0 < length f.now }
+{
+    let end = degree_of(f) + 1;
+    print_line(rt, "D", index, &f[..end])
+}
+
 fn print_diagonal(rt: &impl Print, d: &[u8], n: usize) -> io::Result<()>
     requires { (n < 256) × (length d.now ≡ n * (n + 1)) }
 {
     for i in 0..n {
-        let f = row(d, i, n + 1);
-        let end = degree_of(f) + 1;
-        print_line(rt, "D", i + 1, &f[..end])?;
+        print_polynomial(rt, i + 1, row(d, i, n + 1))?;
     }
     Ok(())
 }

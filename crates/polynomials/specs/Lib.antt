@@ -4,3 +4,4 @@ pub mod Taking
 pub mod Subtraction
 pub mod LongDivision
 pub mod Rule
+pub mod Degree

@@ -1,11 +1,12 @@
 // Polynomials over F_p by value, constant term first: division with quotient and remainder, and the divisibility test.
 #![tactic(auto)]
 
-ghost use Rattle.std.specs.Prelude.{◌↔◌, ◌+◌, ◌≤◌, ◌<◌, T, length};
+ghost use Rattle.std.specs.Prelude.{◌≡◌, ◌↔◌, ◌-◌, ◌+◌, ◌≤◌, ◌<◌, T, length};
 ghost use Rattle.algebra.specs.Divides.{Divides};
 ghost use Rattle.algebra.specs.Polynomial.{polynomials};
 ghost use Rattle.algebra.specs.Modular.{modulo};
-ghost use Rattle.forms.specs.Numbers.{prime};
+ghost use Rattle.forms.specs.Numbers.{at, prime};
+ghost use Rattle.forms.specs.Polynomials.{degree};
 ghost use Rattle.polynomials.specs.Canonical.{coefficient_limit, polynomial, Canonical};
 ghost use Rattle.polynomials.specs.Taking.{TrimmedFrom, TakenFrom};
 ghost use Rattle.polynomials.specs.Subtraction.{Lessened};
@@ -17,6 +18,13 @@ use residues::residue::{plus_multiple, reciprocal_of};
 
 // A polynomial of degree ORDER has one coefficient more.
 pub const COEFFICIENTS: usize = ORDER + 1;
+
+// The degree of the polynomial with these coefficients.
+pub fn degree_of(f: &[u8]) -> usize
+    ensures { result ≡ degree (length f.now - 1) (at f.now) }
+{
+    f.iter().rposition(|c| *c != 0).unwrap_or(0)
+}
 
 // `len` coefficients, the last of them not zero, and zeros behind them. The zero polynomial has none.
 #[derive(Clone, Copy)]

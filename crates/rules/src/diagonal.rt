@@ -8,7 +8,7 @@ ghost use Rattle.products.specs.Searches.{failing};
 
 use forms::ORDER;
 use matrices::Order;
-use polynomials::from_coefficients;
+use polynomials::{degree_of, from_coefficients};
 use residues::modulus::Modulus;
 
 // The n + 1 coefficients of f_i.
@@ -18,13 +18,6 @@ fn coefficients(bytes: &[u8], i: usize, order: Order) -> &[u8]
 {
     let start = i * (order.n + 1);
     &bytes[start..start + order.n + 1]
-}
-
-// The degree of the polynomial with these coefficients.
-pub fn degree_of(f: &[u8]) -> usize
-    ensures { result ≡ degree (length f.now - 1) (at f.now) }
-{
-    f.iter().rposition(|c| *c != 0).unwrap_or(0)
 }
 
 // The degrees of f1 .. fn.

@@ -5,11 +5,11 @@ use Rattle.blockform.proofs.print_certificate.Goals as goal
 
 pub payload-requires : goal.payload-requires
 payload-requires g c =
-    (lit< tt, record_within c.args.n c.args.room.now c.requires.0 c.requires.1 2 (lit< tt))
+    record_within c.args.n c.args.room.now c.requires.0 c.requires.1 2 (lit< tt)
 
 pub payload-requires-2 : goal.payload-requires-2
 payload-requires-2 g c =
-    (lit< tt, record_within c.args.n c.args.room.now c.requires.0 c.requires.1 7 (lit< tt))
+    record_within c.args.n c.args.room.now c.requires.0 c.requires.1 7 (lit< tt)
 
 pub print_listing-requires : goal.print_listing-requires
 print_listing-requires g c = (

@@ -8,7 +8,7 @@ use Rattle.blockform.proofs.diagonal.lead_of.Goals as goal
 use Rattle.blockform.proofs.diagonal.lead_of.Goals.{After-exponent_of-sum}
 
 pub loop-i-init : goal.loop-i-init
-loop-i-init c = (omega arith, sym (no_exponents _ _), omega arith)
+loop-i-init c = (sym (no_exponents _ _), omega arith)
 
 pub row-requires : goal.row-requires
 row-requires c = has_row _ _ _ _ c.requires.1 (omega arith)
@@ -28,10 +28,10 @@ loop-i-preserved c =
     let e = answered c in
     let small = exponent_limited (suc c.args.n) (diagonal c.args.n c.args.d.now c.loop-i.i) in
     let next = next_exponent c.args.n c.args.d.now c.loop-i.i in
-    (omega arith, omega arith, omega arith)
+    (omega arith, omega arith)
 
 pub returns : goal.returns
 returns c =
     let a = c.args in
     let all : c.loop-i.i ≡ a.n = omega arith in
-    c.loop-i.invariant.1 ∙ ap (exponents a.n a.d.now) all ∙ exponents_are_lead a.n a.d.now
+    c.loop-i.invariant.0 ∙ ap (exponents a.n a.d.now) all ∙ exponents_are_lead a.n a.d.now

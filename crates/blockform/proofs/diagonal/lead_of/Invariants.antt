@@ -4,7 +4,4 @@ use Rattle.blockform.specs.Diagonal.{exponents}
 use Rattle.blockform.proofs.diagonal.lead_of.Given as goal
 
 abbrev pub invariant-loop-i : goal.invariant-loop-i
-invariant-loop-i l = (l.i ≤ l.n) × (l.sum ≡ exponents l.n l.d l.i) × (l.sum ≤ l.i * 256)
-
-abbrev pub decreases-loop-i : goal.decreases-loop-i
-decreases-loop-i l = l.n - l.i
+invariant-loop-i l = (l.sum ≡ exponents l.n l.d l.i) × (l.sum ≤ l.i * 256)

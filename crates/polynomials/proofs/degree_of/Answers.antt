@@ -1,7 +1,7 @@
 -- The degree is the last index with a coefficient that is not zero.
 use Rattle.std.proofs.Common.{◌∙◌, rules}
-use Rattle.rules.specs.Diagonal.{LastNonzero, degree_last}
-use Rattle.rules.proofs.diagonal.degree_of.Goals as goal
+use Rattle.polynomials.specs.Degree.{LastNonzero, degree_last}
+use Rattle.polynomials.proofs.degree_of.Goals as goal
 
 pub returns : goal.returns
 returns c =
