@@ -1,5 +1,5 @@
 -- What the listing says of D: where a polynomial's first coefficient that is not 0 stands, and the lead.
-use Rattle.std.specs.Prelude.{◌≡◌, Bool, true, false, cond, List, ℕ, zero, suc, ◌+◌, ◌*◌, ◌-◌, ◌≤◌, ◌<◌, eqb, length, Option, Some, None, MatchOption, unwrap_or, ◌≢◌}
+use Rattle.std.specs.Prelude.{◌≡◌, Bool, true, false, cond, List, ℕ, zero, suc, ◌+◌, ◌*◌, ◌≤◌, ◌<◌, eqb, length, Option, Some, None, MatchOption, unwrap_or, ◌≢◌}
 use Rattle.std.proofs.Math.Path.{refl, ap}
 use Rattle.std.proofs.Common.{sym, ◌∙◌, ap₂, add-one, arith, eq-eqb, ne_eqb}
 use Rattle.forms.specs.Numbers.{at, total}

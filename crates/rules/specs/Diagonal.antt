@@ -1,15 +1,13 @@
 -- The diagonal's polynomials among their bytes, their degrees as the last coefficients that are not zero, and the sum of these.
-use Rattle.std.specs.Prelude.{◌≡◌, refl, ◌≢◌, cond, List, ℕ, zero, suc, ◌+◌, ◌*◌, ◌^◌, ◌-◌, ◌≤◌, ◌<◌, T, eqb, ltb, length, take, drop, sum, Option, Some, None, MatchOption, unwrap_or}
-use Rattle.std.proofs.Common.{sym, ◌∙◌, ap, ap₂, arith, eqb→eq}
+use Rattle.std.specs.Prelude.{◌≡◌, refl, cond, List, ℕ, zero, suc, ◌+◌, ◌*◌, ◌^◌, ◌-◌, ◌≤◌, ◌<◌, T, eqb, ltb, length, take, drop, sum}
+use Rattle.std.proofs.Common.{◌∙◌, ap, ap₂, arith}
 use Rattle.std.proofs.Math.Path.{fun_ext}
-use Rattle.std.proofs.Math.Decide.{dec_lt, ℕ_discrete}
-use Rattle.std.proofs.Math.ListN.{get_or-eq_default}
 use Rattle.std.proofs.Math.Seq.{take-suc}
 use Rattle.std.proofs.lemmas.List.Sums.{sum_by_push}
 use Rattle.forms.specs.Numbers.{at, total, prime, order_limit}
-use Rattle.forms.specs.Polynomials.{Coefficients, degree, monic}
+use Rattle.forms.specs.Polynomials.{degree, monic}
 use Rattle.forms.specs.Matrices.{diagonal}
-use Rattle.forms.specs.Tests.{cond_holds, cond_fails, equal_holds, total_equal}
+use Rattle.forms.specs.Tests.{total_equal}
 use Rattle.forms.specs.Bounds.{degree_limited, diagonal_at}
 use Rattle.products.specs.Products.{slice_coefficients}
 

@@ -1,5 +1,5 @@
 -- The first coefficient that is not zero, or the end.
-use Rattle.std.proofs.Common.{◌∙◌, sym, rules}
+use Rattle.std.proofs.Common.{◌∙◌, rules}
 use Rattle.blockform.specs.Diagonal.{FirstNonzero, exponent_first}
 use Rattle.blockform.proofs.diagonal.exponent_of.Goals as goal
 

@@ -1,5 +1,5 @@
 -- The sum of the exponents of the first i polynomials.
-use Rattle.std.proofs.Common.{◌≡◌, ◌*◌, ◌-◌, ◌≤◌}
+use Rattle.std.proofs.Common.{◌≡◌, ◌*◌, ◌≤◌}
 use Rattle.blockform.specs.Diagonal.{exponents}
 use Rattle.blockform.proofs.diagonal.lead_of.Given as goal
 
