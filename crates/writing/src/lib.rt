@@ -8,14 +8,6 @@ ghost use Rattle.writing.specs.Written.{head_bytes};
 
 use certificate::records::Record;
 
-pub fn put_byte(out: &mut [u8], at: usize, byte: u8) -> usize
-    requires { at < length out.old }
-    ensures { Puts at (byte ∷ []) out.old out.new result }
-{
-    out[at] = byte;
-    at + 1
-}
-
 pub fn put_bytes(out: &mut [u8], at: usize, bytes: &[u8]) -> usize
     requires { at + length bytes.now ≤ length out.old }
     ensures { Puts at bytes.now out.old out.new result }
