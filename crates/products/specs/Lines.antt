@@ -1,6 +1,6 @@
 -- A row of a product: the sums of its entries side by side, and what is added to each of the first n.
 use Rattle.std.specs.Prelude.{◌≡◌, refl, ◌≢◌, Bool, List, [], ℕ, ◌+◌, ◌*◌, ◌≤◌, ◌<◌, length, get_or, set, replicate}
-use Rattle.std.proofs.Common.{sym, ◌∙◌, ap, add_assoc, le_antisymm, arith, length-set, get_or-set_same, get_or-set_other}
+use Rattle.std.proofs.Common.{sym, ◌∙◌, ap, add_assoc, arith, length-set, get_or-set_same, get_or-set_other}
 use Rattle.std.proofs.Math.Decide.{ℕ_discrete}
 use Rattle.std.proofs.lemmas.List.{get_or-replicate, length-replicate}
 use Rattle.forms.specs.Numbers.{at, order_limit}
@@ -46,10 +46,7 @@ pub record HoldingLine (n : ℕ) (line : List (List ℕ)) (f : ℕ → Coefficie
 pub line_test : (p z n : ℕ) (line : List (List ℕ)) (f : ℕ → Coefficients) → HoldingLine n line f → (j : ℕ) → j < n → (g : Coefficients) (answer : Bool) → answer ≡ same_modulo p z (at (get_or line j [])) g → same_modulo p z (f j) g ≡ answer
 line_test p z n line f h j l g answer e = sym (e ∙ ap (λ (x : Coefficients). same_modulo p z x g) (holding_is (h.each j l)))
 
--- the loop over the entries of a row: none of them, one more, and all
-pub line_none : (line : List (List ℕ)) (f : ℕ → Coefficients) → PlusLine 0 line line f
-line_none line f = record { long = refl; each = λ j l. absurd (omega arith); rest = λ j l. refl }
-
+-- the loop over the entries of a row: one more of them
 pub line_more : (n : ℕ) (before line : List (List ℕ)) (f : ℕ → Coefficients) → PlusLine n line before f → n < length line → (sums : List ℕ) → Plus sums (get_or line n []) (f n) → PlusLine (n + 1) (set line n sums) before f
 line_more n before line f h l sums p = record {
   long = simp length-set h.long;
@@ -59,9 +56,6 @@ line_more n before line f h l sums p = record {
   ];
   rest = λ j m. get_or-set_other line n j sums [] (omega arith) ∙ h.rest j (omega arith);
 }
-
-pub line_all : (n m : ℕ) (before line : List (List ℕ)) (f : ℕ → Coefficients) → PlusLine m line before f → m ≤ n → n ≤ m → PlusLine n line before f
-line_all n m before line f h a b = rw (le_antisymm b a) h
 
 -- the next entry is as it was
 pub line_ahead : (n m b : ℕ) (before line : List (List ℕ)) (f : ℕ → Coefficients) → PlusLine m line before f → m < n → RoomFor n b before → (length (get_or line m []) ≡ term_limit) × ((k : ℕ) → at (get_or line m []) k + b ≤ room)

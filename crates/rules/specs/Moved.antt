@@ -93,9 +93,3 @@ diagonal_added n x k l line order small inside r = line_one n l line (diagonal_t
 
 pub diagonal_room : (n x k l : ℕ) (line after : List (List ℕ)) → x ≤ 255 → PlusLine n after line (diagonal_term x k l) → RoomFor n product_limit line → RoomFor n 0 after
 diagonal_room n x k l line after byte p r = line_room n product_limit 0 line after (diagonal_term x k l) p (λ j i. monomial_small (k + 1) (x * unit l j) i product_limit (mul-le-mul byte (unit_byte l j))) r
-
-pub field_term_small : (p x y : ℕ) → p ≤ 255 → x ≤ 255 → x * (p - y) ≤ product_limit
-field_term_small p x y limited byte = mul-le-mul byte less
-  where
-    less : p - y ≤ 255
-    less = omega arith
