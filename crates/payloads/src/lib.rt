@@ -104,9 +104,9 @@ pub fn put_records(out: &mut [u8], matrix: &[u8], form: &Reduction) -> usize
     ensures { (result ≡ certificate_length form.now.order.n) × (out.new ≡ layout (certificate_of form.now matrix.now) ++ drop (certificate_length form.now.order.n) out.old) }
 {
     let mut at = 0;
-    for kind in &RECORDS {
-        let start = put_head(out, at, *kind, kind.payload_size(form.order.n as u8));
-        at = put_payload(out, start, *kind, matrix, form);
+    for &kind in &RECORDS {
+        let start = put_head(out, at, kind, kind.payload_size(form.order.n as u8));
+        at = put_payload(out, start, kind, matrix, form);
     }
     at
 }
