@@ -5,12 +5,12 @@ ghost use Rattle.forms.specs.Numbers.{at, order_limit};
 ghost use Rattle.matrices.specs.Filling.{filled};
 ghost use Rattle.heads.specs.Heads.{begins};
 ghost use Rattle.entries.specs.PutEntries.{ShortPut};
-ghost use Rattle.entries.specs.Coefficients.{Small, SmallState, Tables, block_coefficient, D_coefficient, P_coefficient, PI_coefficient, head_sum, Q_coefficient, QI_coefficient, side, closed_entry, D_entry, zero_entry};
+ghost use Rattle.entries.specs.Coefficients.{SmallState, Tables, block_coefficient, D_coefficient, P_coefficient, PI_coefficient, head_sum, Q_coefficient, QI_coefficient, side, closed_entry, D_entry, zero_entry};
 
 use basis::steps::State;
 use forms::ORDER;
 use heads::is_head;
-use matrices::{Mat, Order, Row};
+use matrices::{Order, Row};
 use residues::modulus::Modulus;
 
 // The most coefficients that an entry of D has.
@@ -48,34 +48,6 @@ fn opposite(x: u8, p: u8) -> u8
         return 0;
     }
     p - x
-}
-
-// The polynomial of a block, with its constant term at j = the block's first row: minus the last column, and 1 behind it.
-fn block_coefficient(f: &Mat, end: usize, j: usize, p: u8) -> u8
-    requires { (end < order_limit) × Small p f.now }
-    ensures { result ≡ block_coefficient p f.now end j }
-{
-    if j <= end {
-        return opposite(f[j][end], p);
-    }
-    if j == end + 1 {
-        return 1;
-    }
-    0
-}
-
-// Coefficient k of an entry of D, to which row i of F belongs: 1 where that begins no block.
-fn d_coefficient(f: &Mat, i: usize, end: usize, k: usize, p: u8) -> u8
-    requires { (i < order_limit) × (end < order_limit) × (k ≤ order_limit) × Small p f.now }
-    ensures { result ≡ D_coefficient p f.now i end k }
-{
-    if is_head(f, i) {
-        return block_coefficient(f, end, i + k, p);
-    }
-    if k == 0 {
-        return 1;
-    }
-    0
 }
 
 // The row of D that the row of F belongs to, for the entry (r, c).
@@ -200,6 +172,34 @@ impl Reduction<'_> {
         }
     }
 
+    // The polynomial of a block, with its constant term at j = the block's first row: minus the last column, and 1 behind it.
+    fn block_coefficient(&self, end: usize, j: usize) -> u8
+        requires { end < order_limit }
+        ensures { result ≡ block_coefficient self.now.modulus.p self.now.state.now.b end j }
+    {
+        if j <= end {
+            return opposite(self.state.b[j][end], self.modulus.p);
+        }
+        if j == end + 1 {
+            return 1;
+        }
+        0
+    }
+
+    // Coefficient k of an entry of D, to which row i of F belongs: 1 where that begins no block.
+    fn d_coefficient(&self, i: usize, end: usize, k: usize) -> u8
+        requires { (i < order_limit) × (end < order_limit) × (k ≤ order_limit) }
+        ensures { result ≡ D_coefficient self.now.modulus.p self.now.state.now.b i end k }
+    {
+        if is_head(&self.state.b, i) {
+            return self.block_coefficient(end, i + k);
+        }
+        if k == 0 {
+            return 1;
+        }
+        0
+    }
+
     // The n + 1 coefficients of entry b of D.
     pub fn d_entry(&self, b: usize) -> Entry
         requires { b < self.now.order.n }
@@ -209,7 +209,7 @@ impl Reduction<'_> {
         let end = usize::from(self.last[i]);
         let mut e = [0u8; COEFFICIENTS];
         for k in 0..self.order.n + 1 {
-            e[k] = d_coefficient(&self.state.b, i, end, k, self.modulus.p);
+            e[k] = self.d_coefficient(i, end, k);
         }
         e
     }
