@@ -50,13 +50,15 @@ fn opposite(x: u8, p: u8) -> u8
     p - x
 }
 
-// The row of D that the row of F belongs to, for the entry (r, c).
-fn side(factor: Factor, r: usize, c: usize) -> usize
-    ensures { result ≡ side factor r c }
-{
-    match factor {
-        Factor::P | Factor::QInverse => r,
-        Factor::PInverse | Factor::Q => c,
+impl Factor {
+    // The row of D that the row of F belongs to, for the entry (r, c).
+    fn side(self, r: usize, c: usize) -> usize
+        ensures { result ≡ side self r c }
+    {
+        match self {
+            Factor::P | Factor::QInverse => r,
+            Factor::PInverse | Factor::Q => c,
+        }
     }
 }
 
@@ -162,7 +164,7 @@ impl Reduction<'_> {
         requires { (start + self.now.order.n ≤ length out.old) × (r < self.now.order.n) × (c < self.now.order.n) }
         ensures { ShortPut start self.now.order.n (closed_entry self.now.modulus.p self.now.state.now self.now.from self.now.last factor r c) out.old out.new }
     {
-        let i = usize::from(self.from[side(factor, r, c)]);
+        let i = usize::from(self.from[factor.side(r, c)]);
         let end = usize::from(self.last[i]);
         match factor {
             Factor::P => self.p_entry(out, start, end, i, c),
