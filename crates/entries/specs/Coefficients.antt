@@ -73,16 +73,3 @@ side QInverse r c = r
 
 unfoldable pub closed_entry : ℕ → State → List ℕ → List ℕ → Factor → ℕ → ℕ → Coefficients
 closed_entry p s from last factor r c = let i = at from (side factor r c) in closed_coefficient p s i (at last i) factor r c
-
--- the record that holds the matrix
-unfoldable pub record_of : Factor → ℕ
-record_of P = 3
-record_of PInverse = 4
-record_of Q = 5
-record_of QInverse = 6
-
-pub side_below : (n : ℕ) (factor : Factor) (r c : ℕ) → r < n → c < n → side factor r c < n
-side_below n P r c l g = l
-side_below n PInverse r c l g = g
-side_below n Q r c l g = g
-side_below n QInverse r c l g = l

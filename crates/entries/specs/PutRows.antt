@@ -30,6 +30,3 @@ module _ {at m w : ℕ} {t : ℕ → List ℕ} {before : List ℕ} (rows : Rows 
     pub rows_turn : {after : List ℕ} {end : ℕ} → Puts next (t i) between after end → Puts at (joined (i + 1) t) before after end
     unfolding joined
     rows_turn more = rw (add-one i) (puts_then put more (let h = fits in let q = joined_rows_length w t rows.long i in omega (arith, rows.room)))
-
-  pub rows_end : {i next : ℕ} {after : List ℕ} → i ≤ m → m ≤ i → Puts at (joined i t) before after next → Puts at (joined m t) before after next
-  rows_end {i} {next} {after} a b p = let e : i ≡ m = omega arith in rw e at p

@@ -5,12 +5,12 @@ ghost use Rattle.forms.specs.Numbers.{at, order_limit};
 ghost use Rattle.matrices.specs.Filling.{filled};
 ghost use Rattle.heads.specs.Heads.{begins};
 ghost use Rattle.entries.specs.PutEntries.{ShortPut};
-ghost use Rattle.entries.specs.Coefficients.{Small, SmallState, Tables, block_coefficient, D_coefficient, P_coefficient, PI_coefficient, head_sum, Q_coefficient, QI_coefficient, side, closed_entry, D_entry, zero_entry};
+ghost use Rattle.entries.specs.Coefficients.{SmallState, Tables, block_coefficient, D_coefficient, P_coefficient, PI_coefficient, head_sum, Q_coefficient, QI_coefficient, side, closed_entry, D_entry, zero_entry};
 
 use basis::steps::State;
 use forms::ORDER;
 use heads::is_head;
-use matrices::{Mat, Order, Row};
+use matrices::{Order, Row};
 use residues::modulus::Modulus;
 
 // The most coefficients that an entry of D has.
@@ -50,41 +50,15 @@ fn opposite(x: u8, p: u8) -> u8
     p - x
 }
 
-// The polynomial of a block, with its constant term at j = the block's first row: minus the last column, and 1 behind it.
-fn block_coefficient(f: &Mat, end: usize, j: usize, p: u8) -> u8
-    requires { (end < order_limit) × Small p f.now }
-    ensures { result ≡ block_coefficient p f.now end j }
-{
-    if j <= end {
-        return opposite(f[j][end], p);
-    }
-    if j == end + 1 {
-        return 1;
-    }
-    0
-}
-
-// Coefficient k of an entry of D, to which row i of F belongs: 1 where that begins no block.
-fn d_coefficient(f: &Mat, i: usize, end: usize, k: usize, p: u8) -> u8
-    requires { (i < order_limit) × (end < order_limit) × (k ≤ order_limit) × Small p f.now }
-    ensures { result ≡ D_coefficient p f.now i end k }
-{
-    if is_head(f, i) {
-        return block_coefficient(f, end, i + k, p);
-    }
-    if k == 0 {
-        return 1;
-    }
-    0
-}
-
-// The row of D that the row of F belongs to, for the entry (r, c).
-fn side(factor: Factor, r: usize, c: usize) -> usize
-    ensures { result ≡ side factor r c }
-{
-    match factor {
-        Factor::P | Factor::QInverse => r,
-        Factor::PInverse | Factor::Q => c,
+impl Factor {
+    // The row of D that the row of F belongs to, for the entry (r, c).
+    fn side(self, r: usize, c: usize) -> usize
+        ensures { result ≡ side self r c }
+    {
+        match self {
+            Factor::P | Factor::QInverse => r,
+            Factor::PInverse | Factor::Q => c,
+        }
     }
 }
 
@@ -190,7 +164,7 @@ impl Reduction<'_> {
         requires { (start + self.now.order.n ≤ length out.old) × (r < self.now.order.n) × (c < self.now.order.n) }
         ensures { ShortPut start self.now.order.n (closed_entry self.now.modulus.p self.now.state.now self.now.from self.now.last factor r c) out.old out.new }
     {
-        let i = usize::from(self.from[side(factor, r, c)]);
+        let i = usize::from(self.from[factor.side(r, c)]);
         let end = usize::from(self.last[i]);
         match factor {
             Factor::P => self.p_entry(out, start, end, i, c),
@@ -198,6 +172,34 @@ impl Reduction<'_> {
             Factor::Q => self.q_entry(out, start, end, r, i),
             Factor::QInverse => self.qi_entry(out, start, end, i, c),
         }
+    }
+
+    // The polynomial of a block, with its constant term at j = the block's first row: minus the last column, and 1 behind it.
+    fn block_coefficient(&self, end: usize, j: usize) -> u8
+        requires { end < order_limit }
+        ensures { result ≡ block_coefficient self.now.modulus.p self.now.state.now.b end j }
+    {
+        if j <= end {
+            return opposite(self.state.b[j][end], self.modulus.p);
+        }
+        if j == end + 1 {
+            return 1;
+        }
+        0
+    }
+
+    // Coefficient k of an entry of D, to which row i of F belongs: 1 where that begins no block.
+    fn d_coefficient(&self, i: usize, end: usize, k: usize) -> u8
+        requires { (i < order_limit) × (end < order_limit) × (k ≤ order_limit) }
+        ensures { result ≡ D_coefficient self.now.modulus.p self.now.state.now.b i end k }
+    {
+        if is_head(&self.state.b, i) {
+            return self.block_coefficient(end, i + k);
+        }
+        if k == 0 {
+            return 1;
+        }
+        0
     }
 
     // The n + 1 coefficients of entry b of D.
@@ -209,7 +211,7 @@ impl Reduction<'_> {
         let end = usize::from(self.last[i]);
         let mut e = [0u8; COEFFICIENTS];
         for k in 0..self.order.n + 1 {
-            e[k] = d_coefficient(&self.state.b, i, end, k, self.modulus.p);
+            e[k] = self.d_coefficient(i, end, k);
         }
         e
     }

@@ -3,10 +3,10 @@
 use Rattle.std.specs.Prelude.{◌≡◌, List, length}
 use Rattle.std.proofs.Math.Path.{sym, subst}
 use Rattle.std.proofs.Common.{◌∙◌, ap, ap₂, add-one, arith}
-use Prim.Native.Nat.{ℕ, suc, ◌+◌, ◌*◌, ◌%◌, ◌≤◌, ◌<◌}
+use Prim.Native.Nat.{ℕ, suc, ◌+◌, ◌*◌, ◌%◌, ◌<◌}
 use Rattle.std.proofs.Math.Decide.{dec_lt}
 use Rattle.algebra.specs.Modular.{Prime}
-use Rattle.forms.specs.Numbers.{at, total, order_limit}
+use Rattle.forms.specs.Numbers.{at, total}
 use Rattle.forms.specs.Tests.{total_equal}
 use Rattle.forms.specs.Primes.{prime_means, prime_positive}
 use Rattle.forms.specs.Polynomials.{Coefficients, degree}
@@ -66,15 +66,10 @@ written p n A s rows ends = record {
 abbrev pub certificate_of : Reduction → List ℕ → Certificate
 certificate_of form A = written form.modulus.p form.order.n A form.state.now form.from form.last
 
--- what is laid out says of the order and of the matrix
-module _ (form : Reduction) (A : List ℕ) (laid : LaidOut (certificate_of form A)) where
-  pub written_order : form.order.n ≤ order_limit
-  unfolding written
-  written_order = laid.high
-
-  pub written_length : length A ≡ form.order.n * form.order.n
-  unfolding written
-  written_length = (MA_residues (certificate_of form A) laid).many
+-- what is laid out says of the matrix
+pub written_length : (form : Reduction) (A : List ℕ) → LaidOut (certificate_of form A) → length A ≡ form.order.n * form.order.n
+unfolding written
+written_length form A laid = (MA_residues (certificate_of form A) laid).many
 
 pub field_small : (p n : ℕ) (m : Array) → 0 < p → FieldMatrix p n m → Small p m
 field_small p n m q h = record {

@@ -84,7 +84,6 @@ fn put_payload(out: &mut [u8], at: usize, kind: Record, matrix: &[u8], form: &Re
     requires { (length matrix.now ≡ form.now.order.n * form.now.order.n) × (at + size form.now.order.n (number_of kind) ≤ length out.old) }
     ensures { Puts at (payload (certificate_of form.now matrix.now) (number_of kind)) out.old out.new result }
 {
-    let state = form.state;
     match kind {
         Record::HD => put_bytes(out, at, &[form.modulus.p, form.order.n as u8]),
         Record::MA => put_bytes(out, at, matrix),
@@ -93,9 +92,9 @@ fn put_payload(out: &mut [u8], at: usize, kind: Record, matrix: &[u8], form: &Re
         Record::PI => put_polynomials(out, at, form, Factor::PInverse),
         Record::QR => put_polynomials(out, at, form, Factor::Q),
         Record::QI => put_polynomials(out, at, form, Factor::QInverse),
-        Record::FB => put_matrix(out, at, &state.b, form.order),
-        Record::TB => put_matrix(out, at, &state.t, form.order),
-        Record::TI => put_matrix(out, at, &state.back, form.order),
+        Record::FB => put_matrix(out, at, &form.state.b, form.order),
+        Record::TB => put_matrix(out, at, &form.state.t, form.order),
+        Record::TI => put_matrix(out, at, &form.state.back, form.order),
     }
 }
 
@@ -105,9 +104,9 @@ pub fn put_records(out: &mut [u8], matrix: &[u8], form: &Reduction) -> usize
     ensures { (result ≡ certificate_length form.now.order.n) × (out.new ≡ layout (certificate_of form.now matrix.now) ++ drop (certificate_length form.now.order.n) out.old) }
 {
     let mut at = 0;
-    for kind in &RECORDS {
-        let start = put_head(out, at, *kind, kind.payload_size(form.order.n as u8));
-        at = put_payload(out, start, *kind, matrix, form);
+    for &kind in &RECORDS {
+        let start = put_head(out, at, kind, kind.payload_size(form.order.n as u8));
+        at = put_payload(out, start, kind, matrix, form);
     }
     at
 }

@@ -5,7 +5,7 @@ use Rattle.writing.specs.Put.{puts_bytes}
 use Rattle.entries.specs.declared.closed.Reduction.{Reduction}
 use Rattle.entries.specs.Coefficients.{D_entry}
 use Rattle.entries.specs.Listing.{filled_listed}
-use Rattle.entries.specs.PutRows.{Rows, rows_start, rows_room, rows_turn, rows_end}
+use Rattle.entries.specs.PutRows.{Rows, rows_start, rows_room, rows_turn}
 use Rattle.payloads.proofs.put_diagonal.Goals as goal
 
 -- entries of n + 1 coefficients, with room for all of them
@@ -26,6 +26,3 @@ loop-b-preserved c =
     let entry = c.d_entry-entry in
     let bytes = filled_listed (c.args.form.now.order.n + 1) _ _ entry.ensures (length-take-le _ _ (omega arith)) in
     rows_turn (rows c.args.form.now c.requires) (omega arith) c.loop-b.invariant (puts_bytes bytes c.put_bytes-next.ensures)
-
-pub returns : goal.returns
-returns c = rows_end (rows c.args.form.now c.requires) (omega arith) (omega arith) c.loop-b.invariant

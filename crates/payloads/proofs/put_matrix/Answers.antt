@@ -3,7 +3,7 @@ use Rattle.std.proofs.Common.{ℕ, List, [], ◌≡◌, ◌+◌, ◌*◌, ◌≤
 use Rattle.forms.specs.Listed.{listed, listed_length}
 use Rattle.matrices.specs.Matrices.{cell}
 use Rattle.writing.specs.Put.{puts_bytes}
-use Rattle.entries.specs.PutRows.{Rows, rows_start, rows_room, rows_turn, rows_end}
+use Rattle.entries.specs.PutRows.{Rows, rows_start, rows_room, rows_turn}
 use Rattle.payloads.proofs.put_matrix.Goals as goal
 
 -- rows of n entries, with room for all of them
@@ -24,8 +24,3 @@ loop-row-preserved c =
     let many : length (take c.args.order.n c.args.m.now) ≡ c.args.order.n = length-take-le _ _ (omega arith) in
     rows_turn (rows c.args.m.now c.requires) (omega arith) l.invariant
     (puts_bytes (ap (λ (row : List ℕ). listed c.args.order.n (λ j. get_or row j 0)) (get_or-take c.args.order.n c.args.m.now l.row-index [] (omega arith))) c.put_row-next.ensures)
-
-pub returns : goal.returns
-returns c =
-    let many : length (take c.args.order.n c.args.m.now) ≡ c.args.order.n = length-take-le _ _ (omega arith) in
-    rows_end (rows c.args.m.now c.requires) (omega arith) (omega arith) c.loop-row.invariant

@@ -5,7 +5,7 @@ use Rattle.forms.specs.Certificate.{joined}
 use Rattle.entries.specs.declared.closed.Factor.{Factor}
 use Rattle.entries.specs.declared.closed.Reduction.{Reduction}
 use Rattle.entries.specs.Coefficients.{closed_entry}
-use Rattle.entries.specs.PutRows.{Rows, joined_rows_length, rows_start, rows_room, rows_turn, rows_end}
+use Rattle.entries.specs.PutRows.{Rows, joined_rows_length, rows_start, rows_room, rows_turn}
 use Rattle.payloads.proofs.put_polynomials.Goals as goal
 
 -- rows of n entries of n coefficients, with room for all of them
@@ -25,6 +25,3 @@ loop-r-preserved c =
     let l = c.loop-r in
     let w = c.put_line-next in
     rows_turn (rows c.args.form.now c.args.factor c.requires) (omega arith) l.invariant w.ensures
-
-pub returns : goal.returns
-returns c = let l = c.loop-r in rows_end (rows c.args.form.now c.args.factor c.requires) l.auto.r-end c.loop-r-test.false l.invariant

@@ -2,7 +2,7 @@
 use Rattle.std.proofs.Common.{le-leb, eq-eqb, ne_eqb}
 use borrow.Author.Tests.{lt-leb}
 use Rattle.entries.specs.Coefficients.{block_coefficient}
-use Rattle.entries.proofs.closed.block_coefficient.Goals as goal
+use Rattle.entries.proofs.closed.Reduction.block_coefficient.Goals as goal
 
 pub returns-then-j-end : goal.returns-then-j-end
 unfolding block_coefficient

@@ -1,7 +1,7 @@
 -- The cases of the definition.
 use Rattle.std.proofs.Common.{sym, ◌∙◌, eq-eqb, ne_eqb}
 use Rattle.entries.specs.Coefficients.{D_coefficient}
-use Rattle.entries.proofs.closed.d_coefficient.Goals as goal
+use Rattle.entries.proofs.closed.Reduction.d_coefficient.Goals as goal
 
 pub returns-then-is_head : goal.returns-then-is_head
 unfolding D_coefficient
