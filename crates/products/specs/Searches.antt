@@ -14,9 +14,6 @@ failing test rule = cond test (Ok tt) (Err rule)
 pub every_all : (n : ℕ) (t : ℕ → Bool) (i : ℕ) → every i t ≡ true → i ≤ n → n ≤ i → every n t ≡ true
 every_all n t i h l g = rw (le_antisymm g l) h
 
-pub all_passed : (n : ℕ) (t : ℕ → Bool) (rule i : ℕ) → every i t ≡ true → i ≤ n → n ≤ i → Ok tt ≡ failing (every n t) rule
-all_passed n t rule i h l g = sym (ap (λ (b : Bool). failing b rule) (every_all n t i h l g))
-
 pub one_failed : (n : ℕ) (t : ℕ → Bool) (rule i : ℕ) → i < n → t i ≡ false → Err rule ≡ failing (every n t) rule
 one_failed n t rule i l e = sym (ap (λ (b : Bool). failing b rule) (every_fails n t i l e))
 

@@ -2,23 +2,15 @@
 use Rattle.std.proofs.Common.{◌∙◌, suc, ◌*◌}
 use Rattle.matrices.specs.Filling.{every_start, every_turn}
 use Rattle.products.specs.Lines.{line_test}
-use Rattle.products.specs.Searches.{every_all, all_passed, entry_failed}
+use Rattle.products.specs.Searches.{every_all, entry_failed}
 use Rattle.rules.specs.SmithEntries.{returned_entries, smith_entry_test}
 use Rattle.rules.proofs.smith.smith_rule.Goals as goal
 
 pub loop-i-init : goal.loop-i-init
 loop-i-init c = every_start _
 
-pub moved_line-line-requires : goal.moved_line-line-requires
-moved_line-line-requires c =
-    let h = c.requires in
-    record { payload = record { matrix_long = h.matrix_long; small = h.small }; row = c.loop-i-test.true; left_long = h.left_long }
-
 pub loop-j-init : goal.loop-j-init
 loop-j-init c = every_start _
-
-pub is_returned-requires : goal.is_returned-requires
-is_returned-requires c = (record { row = c.loop-i-test.true; column = c.loop-j-test.true }, c.requires.right_long)
 
 pub loop-j-preserved : goal.loop-j-preserved
 loop-j-preserved c =
@@ -27,9 +19,6 @@ loop-j-preserved c =
 
 pub loop-i-preserved : goal.loop-i-preserved
 loop-i-preserved c = let l = c.loop-j in every_turn _ _ c.loop-i.invariant (every_all _ _ l.j l.invariant l.auto.j-end c.loop-j-test.false)
-
-pub returns-after-loop-i : goal.returns-after-loop-i
-returns-after-loop-i c = let l = c.loop-i in all_passed _ _ 6 l.i l.invariant l.auto.i-end c.loop-i-test.false
 
 pub returns-then-not-is_returned : goal.returns-then-not-is_returned
 returns-then-not-is_returned c =
