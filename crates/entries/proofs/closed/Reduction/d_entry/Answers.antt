@@ -12,4 +12,4 @@ loop-k-preserved c = fill_turn _ _ _ (search rules) c.loop-k.invariant c.d_coeff
 
 pub returns : goal.returns
 unfolding D_entry
-returns c = rw (← c.from-i.ensures, ← c.from-end.ensures) (fill_end _ _ c.loop-k.invariant c.loop-k.auto.k-end c.loop-k-test.false)
+returns c = rw (c.from-end.ensures, c.from-i.ensures) at (fill_end _ _ c.loop-k.invariant c.loop-k.auto.k-end c.loop-k-test.false)
