@@ -8,7 +8,7 @@ use Rattle.forms.specs.Matrices.{diagonal}
 use Rattle.forms.specs.Frobenius.{lead}
 use Rattle.forms.specs.Bounds.{diagonal_at}
 use Rattle.forms.specs.Tests.{total_suc}
-use Rattle.blockform.specs.Rows.{row_of, HasRow, row_length, row_at}
+use Rattle.matrices.specs.Parts.{row_of, HasRow, row_length, row_at}
 
 -- the first k coefficients are 0, and the next, if there is one, is not
 pub exponent_found : (n : ℕ) (f : Coefficients) (k : ℕ) → k ≤ n → ((i : ℕ) → i < k → f i ≡ 0) → (k < n → f k ≡ 0 → ⊥) → exponent n f ≡ k

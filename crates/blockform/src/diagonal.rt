@@ -4,16 +4,8 @@ ghost use Rattle.forms.specs.Numbers.{at};
 ghost use Rattle.forms.specs.Polynomials.{degree, exponent};
 ghost use Rattle.forms.specs.Matrices.{diagonal};
 ghost use Rattle.forms.specs.Frobenius.{lead};
-ghost use Rattle.blockform.specs.Rows.{row_of, HasRow};
 
-// Row i of s, whose rows have this width.
-pub fn row<'a>(s: &'a [u8], i: usize, width: usize) -> &'a [u8]
-    requires { HasRow s.now i width }
-    ensures { result.now ≡ row_of s.now i width }
-{
-    let start = i * width;
-    &s[start..start + width]
-}
+use matrices::loading::row;
 
 // The exponent of X in the polynomial with these coefficients.
 fn exponent_of(f: &[u8]) -> usize

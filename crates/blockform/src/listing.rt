@@ -1,7 +1,8 @@
 // The listing of document 01: p and n, D with the coefficients up to the leading one, F row by row, and the lead.
 ghost use Rattle.std.specs.Prelude.{◌≡◌, ◌+◌, ◌*◌, ◌<◌, length};
 
-use crate::diagonal::{lead_of, row};
+use crate::diagonal::lead_of;
+use matrices::loading::row;
 use polynomials::degree_of;
 use std::io;
 

@@ -3,3 +3,4 @@ pub mod Matrices
 pub mod Loading
 pub mod Products
 pub mod Rows
+pub mod Parts

@@ -4,9 +4,19 @@ ghost use Rattle.forms.specs.Numbers.{at};
 ghost use Rattle.matrices.specs.Filling.{filled};
 ghost use Rattle.matrices.specs.Loading.{loaded};
 ghost use Rattle.matrices.specs.Matrices.{zero_row};
+ghost use Rattle.matrices.specs.Parts.{row_of, HasRow};
 
 use crate::{Mat, Order, Row};
 use forms::ORDER;
+
+// Row i of bytes in rows of this width.
+pub fn row(bytes: &[u8], i: usize, width: usize) -> &[u8]
+    requires { HasRow bytes.now i width }
+    ensures { result.now ≡ row_of bytes.now i width }
+{
+    let start = i * width;
+    &bytes[start..start + width]
+}
 
 // The entry (i, j) of n by n bytes.
 pub fn field_entry(bytes: &[u8], i: usize, j: usize, order: Order) -> u8

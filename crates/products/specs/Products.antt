@@ -11,6 +11,7 @@ use Rattle.forms.specs.Matrices.{PolynomialEntries, polynomial_matrix, polynomia
 use Rattle.forms.specs.Tests.{cond_holds, cond_fails}
 use Rattle.forms.specs.Bounds.{Short, ShortEntries}
 use Rattle.products.specs.Indices.{Inside, entry_inside}
+use Rattle.matrices.specs.Parts.{row_of, HasRow}
 use Rattle.products.specs.Sums.{term_limit, product_limit, room, Plus, products_convolution, products_small, total_small}
 
 -- the sums are the coefficients f
@@ -44,19 +45,22 @@ pub record Inverses (n : ℕ) (s t : List ℕ) : Type 0 where
   pub right_long : length t ≡ n * n * n
 
 -- the n bytes from start on are n coefficients
-pub slice_coefficients : (n start m : ℕ) (s : List ℕ) → start + n ≤ length s → m ≡ n → (length (take m (drop start s)) ≡ n) × ((k : ℕ) → at (take m (drop start s)) k ≡ cond (ltb k n) (at s (start + k)) 0)
-slice_coefficients n start m s l e =
-    let long : length (take m (drop start s)) ≡ n = length-take-le m (drop start s) (omega (arith, length-drop start s)) ∙ e in (
+pub slice_coefficients : (n start : ℕ) (s : List ℕ) → start + n ≤ length s → (length (take n (drop start s)) ≡ n) × ((k : ℕ) → at (take n (drop start s)) k ≡ cond (ltb k n) (at s (start + k)) 0)
+slice_coefficients n start s l =
+    let long : length (take n (drop start s)) ≡ n = length-take-le n (drop start s) (omega (arith, length-drop start s)) in (
       long,
       λ k. elim (dec_lt k n) [
-        | yes i ↦ get_or-take m (drop start s) k 0 (omega arith) ∙ get_or-drop start s k 0 ∙ sym (cond_holds (ltb k n) _ 0 (lt→ltb k n i))
-        | no i ↦ get_or-eq_default (take m (drop start s)) 0 {n = k} (omega arith) ∙ sym (cond_fails (ltb k n) _ 0 (λ t. i (ltb→lt k n t)))
+        | yes i ↦ get_or-take n (drop start s) k 0 (omega arith) ∙ get_or-drop start s k 0 ∙ sym (cond_holds (ltb k n) _ 0 (lt→ltb k n i))
+        | no i ↦ get_or-eq_default (take n (drop start s)) 0 {n = k} (omega arith) ∙ sym (cond_fails (ltb k n) _ 0 (λ t. i (ltb→lt k n t)))
       ],
     )
 
-pub entry_coefficients : (n i j m : ℕ) (s : List ℕ) → Inside n i j → length s ≡ n * n * n → m ≡ n → let e = take m (drop ((i * n + j) * n) s) in (length e ≡ n) × (at e ≡ polynomial_matrix n s i j)
-unfolding polynomial_matrix
-entry_coefficients n i j m s h l e = let c = slice_coefficients n ((i * n + j) * n) m s (omega (arith, entry_inside n i j h)) e in (c.0, fun_ext c.1)
+pub entry_row : (n i j : ℕ) (s : List ℕ) → Inside n i j → length s ≡ n * n * n → HasRow s (i * n + j) n
+entry_row n i j s h l = omega (arith, entry_inside n i j h)
+
+pub entry_coefficients : (n i j : ℕ) (s : List ℕ) → Inside n i j → length s ≡ n * n * n → let e = row_of s (i * n + j) n in (length e ≡ n) × (at e ≡ polynomial_matrix n s i j)
+unfolding polynomial_matrix row_of
+entry_coefficients n i j s h l = let c = slice_coefficients n ((i * n + j) * n) s (entry_row n i j s h l) in (c.0, fun_ext c.1)
 
 -- the products of one entry have few and small terms
 convolution_small : (n : ℕ) (f g : Coefficients) → n ≤ order_limit → Short n f → ((i : ℕ) → f i ≤ 255) → ((i : ℕ) → g i ≤ 255) → (k : ℕ) → convolution f g k ≤ order_limit * product_limit

@@ -15,6 +15,7 @@ ghost use Rattle.products.specs.Sums.{shifted, Scaling, Multiplying, Plus};
 
 use forms::ORDER;
 use matrices::Order;
+use matrices::loading::row;
 use residues::modulus::Modulus;
 
 // No product of the rules has more coefficients.
@@ -53,8 +54,7 @@ pub fn entry(bytes: &[u8], i: usize, j: usize, order: Order) -> &[u8]
     requires { Inside order.n i j × (length bytes.now ≡ order.n * order.n * order.n) }
     ensures { (length result.now ≡ order.n) × (at result.now ≡ polynomial_matrix order.n bytes.now i j) }
 {
-    let start = (i * order.n + j) * order.n;
-    &bytes[start..start + order.n]
+    row(bytes, i * order.n + j, order.n)
 }
 
 // Adds x X^shift times row l of `right` to the row.

@@ -1,6 +1,6 @@
 -- The diagonal's polynomials among their bytes, their degrees as the last coefficients that are not zero, and the sum of these.
 use Rattle.std.specs.Prelude.{◌≡◌, refl, cond, List, ℕ, zero, suc, ◌+◌, ◌*◌, ◌^◌, ◌-◌, ◌≤◌, ◌<◌, T, eqb, ltb, length, take, drop, sum}
-use Rattle.std.proofs.Common.{◌∙◌, ap, ap₂, arith}
+use Rattle.std.proofs.Common.{◌∙◌, add-one, ap, ap₂, arith}
 use Rattle.std.proofs.Math.Path.{fun_ext}
 use Rattle.std.proofs.Math.Seq.{take-suc}
 use Rattle.std.proofs.lemmas.List.Sums.{sum_by_push}
@@ -9,6 +9,7 @@ use Rattle.forms.specs.Polynomials.{degree, monic}
 use Rattle.forms.specs.Matrices.{diagonal}
 use Rattle.forms.specs.Tests.{total_equal}
 use Rattle.forms.specs.Bounds.{degree_limited, diagonal_at}
+use Rattle.matrices.specs.Parts.{row_of, HasRow, has_row}
 use Rattle.products.specs.Products.{slice_coefficients}
 
 -- the payload of D is residues modulo a prime, with monic polynomials
@@ -38,10 +39,13 @@ degree_is {n} {s = s} of = ap₂ degree last (coefficients_are of)
     last : length s - 1 ≡ n
     last = omega (arith, of.long)
 
--- the n + 1 bytes from where f_i starts
-pub coefficients_from : (n : ℕ) (d : List ℕ) (i start count : ℕ) → start ≡ i * suc n → count ≡ suc n → start + suc n ≤ length d → CoefficientsOf n d i (take count (drop start d))
-unfolding diagonal
-coefficients_from n d i start count e c l = let s = slice_coefficients (suc n) start count d l c in record { long = s.0; coefficient = λ k. s.1 k ∙ ap (λ (x : ℕ). cond (ltb k (suc n)) (at d (x + k)) 0) e }
+-- row i of the payload, n + 1 bytes wide
+pub coefficients_row : (n : ℕ) (d : List ℕ) (i : ℕ) → length d ≡ n * suc n → i < n → HasRow d i (n + 1)
+coefficients_row n d i e l = has_row d n i (n + 1) (rw (add-one n) e) l
+
+pub coefficients_from : (n : ℕ) (d : List ℕ) (i : ℕ) → HasRow d i (n + 1) → CoefficientsOf n d i (row_of d i (n + 1))
+unfolding diagonal row_of
+coefficients_from n d i h = rw (add-one n) (let s = slice_coefficients (suc n) (i * suc n) d (rw (add-one n) at h) in record { long = s.0; coefficient = s.1 })
 
 pub coefficient_small : {p n : ℕ} {d : List ℕ} {i : ℕ} {s : List ℕ} → CoefficientsOf n d i s → ((k : ℕ) → at d k < p) → (k : ℕ) → k ≤ n → at s k < p
 coefficient_small {p} {n} {d} {i} h small k l = rw (h.coefficient k, diagonal_at n d i k (omega arith)) (small _)

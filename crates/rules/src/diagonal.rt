@@ -8,6 +8,7 @@ ghost use Rattle.products.specs.Searches.{failing};
 
 use forms::ORDER;
 use matrices::Order;
+use matrices::loading::row;
 use polynomials::{degree_of, from_coefficients};
 use residues::modulus::Modulus;
 
@@ -16,8 +17,7 @@ fn coefficients(bytes: &[u8], i: usize, order: Order) -> &[u8]
     requires { (length bytes.now ≡ order.n * suc order.n) × (i < order.n) }
     ensures { CoefficientsOf order.n bytes.now i result.now }
 {
-    let start = i * (order.n + 1);
-    &bytes[start..start + order.n + 1]
+    row(bytes, i, order.n + 1)
 }
 
 // The degrees of f1 .. fn.

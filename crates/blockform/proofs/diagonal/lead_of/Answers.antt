@@ -2,7 +2,7 @@
 use Rattle.std.proofs.Common.{◌≡◌, sym, ◌∙◌, ap, suc, ◌+◌, arith}
 use Rattle.forms.specs.Polynomials.{exponent}
 use Rattle.forms.specs.Matrices.{diagonal}
-use Rattle.blockform.specs.Rows.{has_row}
+use Rattle.matrices.specs.Parts.{has_row}
 use Rattle.blockform.specs.Diagonal.{exponent_limited, exponents, no_exponents, next_exponent, exponents_are_lead, row_exponent}
 use Rattle.blockform.proofs.diagonal.lead_of.Goals as goal
 use Rattle.blockform.proofs.diagonal.lead_of.Goals.{After-exponent_of-sum}

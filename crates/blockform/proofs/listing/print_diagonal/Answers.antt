@@ -1,6 +1,6 @@
 -- Each row of D is inside, and holds n + 1 coefficients.
 use Rattle.std.proofs.Common.{◌+◌, arith}
-use Rattle.blockform.specs.Rows.{has_row, row_length}
+use Rattle.matrices.specs.Parts.{has_row, row_length}
 use Rattle.blockform.proofs.listing.print_diagonal.Goals as goal
 
 pub row-requires : goal.row-requires

@@ -1,6 +1,6 @@
 -- Each row of F is inside.
 use Rattle.std.proofs.Common.{arith}
-use Rattle.blockform.specs.Rows.{has_row}
+use Rattle.matrices.specs.Parts.{has_row}
 use Rattle.blockform.proofs.listing.print_frobenius.Goals as goal
 
 pub row-requires : goal.row-requires

@@ -1,11 +1,9 @@
--- f_i ends inside the payload, and its part of the payload is its coefficients.
-use Rattle.std.proofs.Common.{◌≡◌, ap, ℕ, suc, ◌+◌, ◌*◌, add-one, arith}
-use Rattle.products.specs.Indices.{diagonal_inside}
-use Rattle.rules.specs.Diagonal.{coefficients_from}
+-- f_i is a row of the payload, and its bytes are its coefficients.
+use Rattle.rules.specs.Diagonal.{coefficients_row, coefficients_from}
 use Rattle.rules.proofs.diagonal.coefficients.Goals as goal
 
+pub row-requires : goal.row-requires
+row-requires c = let a = c.args in coefficients_row a.order.n a.bytes.now a.i c.requires.0 c.requires.1
+
 pub returns : goal.returns
-returns c =
-    let a = c.args in let n = a.order.n in
-    let start : a.i * (n + 1) ≡ a.i * suc n = ap (λ (x : ℕ). a.i * x) (add-one n) in
-    coefficients_from n a.bytes.now a.i _ _ start (omega arith) (omega (arith, diagonal_inside n a.i c.requires.1))
+returns c = let a = c.args in rw c.row.ensures (coefficients_from a.order.n a.bytes.now a.i (coefficients_row a.order.n a.bytes.now a.i c.requires.0 c.requires.1))
