@@ -1,150 +1,125 @@
--- Entries put into an output that is zero there: only the coefficients that can be other than zero are put, and all of them stand.
-use Rattle.std.specs.Prelude.{◌≡◌, ℕ, zero, suc, ◌+◌, ◌*◌, ◌-◌, ◌≤◌, ◌<◌, length, take, drop, set, get_or, replicate}
+-- Entries put into a line of the output that is zero before: only the coefficients that can be other than zero are put, and all of them stand.
+use Rattle.std.specs.Prelude.{◌≡◌, ℕ, ◌+◌, ◌*◌, ◌-◌, ◌≤◌, ◌<◌, length, take, drop, set, replicate}
 use Rattle.std.proofs.Math.Path.{refl, sym, ap}
-use Rattle.std.proofs.Common.{◌∙◌, ap₂, subst, add-zero, suc-mul, mul-le-mul, add-one, arith, length-append, length-take-le, take_at, drop_at, get_or-append-add, get_or-drop, get_or-take}
-use mathlib.Core.List.{List, [], ◌∷◌, ◌++◌, append_assoc}
-use Rattle.std.proofs.lemmas.List.{length-replicate, get_or-replicate, set-get_or}
-use Rattle.std.proofs.Math.ListN.{get_or-append}
+use Rattle.std.proofs.Common.{◌∙◌, ap₂, subst, add_comm, zero-mul, suc-mul, add-one, arith, length-append, length-drop, length-take-le, take_at, drop_at, ext_get_or}
+use mathlib.Core.List.{List, ◌++◌, append_assoc}
+use Rattle.std.proofs.lemmas.List.{length-replicate, get_or-replicate, replicate-append-replicate, append-nil}
+use Rattle.std.proofs.Math.Decide.{dec_lt}
 use Rattle.forms.specs.Numbers.{at}
 use Rattle.forms.specs.Polynomials.{Coefficients}
 use Rattle.forms.specs.Certificate.{joined}
-use Rattle.forms.specs.Listed.{listed, listed_length}
-use Rattle.writing.specs.Put.{put, Puts, length_put, put_put, put_nothing, set_is_put}
-use Rattle.entries.specs.Listing.{listed_append}
+use Rattle.forms.specs.Listed.{listed, listed_length, listed_at}
+use Rattle.matrices.specs.Filling.{filled, fill_start, fill_turn, filled_inside, filled_outside}
+use Rattle.writing.specs.Put.{put, Puts, middle_is_put}
 use Rattle.entries.specs.PutRows.{joined_rows_length}
 
--- the coefficients of f are put at start, as far as they can be other than zero; n would have room
-pub record ShortPut (start n : ℕ) (f : Coefficients) (before after : List ℕ) : Type 0 where
+-- the coefficients of f are put into the entry, as far as they can be other than zero
+pub record ShortPut (f : Coefficients) (before after : List ℕ) : Type 0 where
   pub many : ℕ
-  pub few : many ≤ n
-  pub written : after ≡ put before start (listed many f)
+  pub few : many ≤ length before
+  pub written : after ≡ filled many f before
   pub none : (k : ℕ) → many ≤ k → f k ≡ 0
 
-listed_more : (k : ℕ) (f : Coefficients) → listed (k + 1) f ≡ listed k f ++ (f k ∷ [])
-unfolding listed
-listed_more k f = listed_append k 1 f ∙ ap (λ (x : ℕ). listed k f ++ (f x ∷ [])) (add-zero k)
-
 -- nothing is put yet, one more coefficient, and the end
-module _ (f : Coefficients) (start : ℕ) (before : List ℕ) where
-  pub coefficients_none : {k : ℕ} → k ≡ 0 → before ≡ put before start (listed k f)
-  unfolding listed
-  coefficients_none e = sym (ap (λ (x : ℕ). put before start (listed x f)) e ∙ put_nothing before start)
+module _ (f : Coefficients) (before : List ℕ) where
+  pub coefficients_none : {k : ℕ} → k ≡ 0 → before ≡ filled k f before
+  coefficients_none e = rw e (fill_start before f)
 
-  pub coefficients_more : (k : ℕ) {next place v : ℕ} {between : List ℕ} → between ≡ put before start (listed k f) → v ≡ f k → place ≡ start + k → next ≡ k + 1 → start + k < length before → set between place v ≡ put before start (listed next f)
-  coefficients_more k {next} {place} {v} {between} e g q h l =
-      let long = listed_length k f in
-      let whole = length_put before start (listed k f) (omega arith) in
-      ap₂ (λ (d : List ℕ) (x : ℕ). set d place x) e g ∙ set_is_put (put before start (listed k f)) place (f k) (omega arith)
-      ∙ put_put before start place (listed k f) (f k ∷ []) (omega arith) (omega arith)
-      ∙ ap (put before start) (sym (listed_more k f) ∙ ap (λ (x : ℕ). listed x f) (sym h))
+  pub coefficients_more : (k : ℕ) {next place v : ℕ} {between : List ℕ} → between ≡ filled k f before → v ≡ f k → place ≡ k → next ≡ k + 1 → k < length before → set between place v ≡ filled next f before
+  coefficients_more k e g q h l = rw (q, h) (fill_turn before k f l e g)
 
-  pub coefficients_end : {n : ℕ} (k : ℕ) {after : List ℕ} → after ≡ put before start (listed k f) → k ≤ n → ((j : ℕ) → k ≤ j → f j ≡ 0) → ShortPut start n f before after
-  coefficients_end k e l z = record { many = k; few = l; written = e; none = z }
+pub coefficients_end : {f : Coefficients} {before after : List ℕ} (k : ℕ) → after ≡ filled k f before → k ≤ length before → ((j : ℕ) → k ≤ j → f j ≡ 0) → ShortPut f before after
+coefficients_end k e l z = record { many = k; few = l; written = e; none = z }
 
-  pub one_coefficient : {n v : ℕ} → v ≡ f 0 → 1 ≤ n → start + n ≤ length before → ((j : ℕ) → 1 ≤ j → f j ≡ 0) → ShortPut start n f before (set before start v)
-  one_coefficient e r l z = coefficients_end 1 (coefficients_more 0 (coefficients_none refl) e (sym (add-zero start)) refl (omega arith)) r z
+pub one_coefficient : {f : Coefficients} {before : List ℕ} {v : ℕ} → v ≡ f 0 → 1 ≤ length before → ((j : ℕ) → 1 ≤ j → f j ≡ 0) → ShortPut f before (set before 0 v)
+one_coefficient {f} {before} e l z = coefficients_end 1 (fill_turn before 0 f l (fill_start before f) e) l z
 
--- behind what was put all is as before
-pub put_beyond : (d : List ℕ) (start : ℕ) (xs : List ℕ) (k : ℕ) → start + length xs ≤ length d → at (put d start xs) (start + length xs + k) ≡ at d (start + length xs + k)
-unfolding put
-put_beyond d start xs k h =
-    let p : List ℕ = take start d ++ xs in
-    let l : length p ≡ start + length xs = length-append (take start d) xs ∙ ap (λ (x : ℕ). x + length xs) (length-take-le start d (omega arith)) in
-    ap (λ (i : ℕ). get_or (p ++ drop (start + length xs) d) (i + k) 0) (sym l) ∙ get_or-append-add p (drop (start + length xs) d) k 0 ∙ get_or-drop (start + length xs) d k 0
+-- an entry of n zeros is all n coefficients afterwards
+abbrev pub zeros : ℕ → List ℕ
+zeros n = replicate n 0
 
--- the n bytes from start on are zero
-pub record Zeros (start n : ℕ) (out : List ℕ) : Type 0 where
-  pub room : start + n ≤ length out
-  pub zero_at : (k : ℕ) → k < n → at out (start + k) ≡ 0
+pub short_put_whole : {n : ℕ} {f : Coefficients} {after : List ℕ} → length after ≡ n → ShortPut f (zeros n) after → after ≡ listed n f
+short_put_whole {n} {f} {after} e s = ext_get_or 0 after (listed n f) (e ∙ sym (listed_length n f)) (λ k l. ap (λ (x : List ℕ). at x k) s.written ∙ one k (omega arith) ∙ sym (listed_at n f k (omega arith)))
+  where
+    one : (k : ℕ) → k < n → at (filled s.many f (zeros n)) k ≡ f k
+    one k l = elim (dec_lt k s.many) [
+      | yes g ↦ filled_inside s.many f (zeros n) 0 k g
+      | no g ↦ filled_outside s.many f (zeros n) 0 k (omega arith) ∙ get_or-replicate n k 0 0 l ∙ sym (s.none k (omega arith))
+    ]
 
-module _ (start n : ℕ) (f : Coefficients) (before : List ℕ) (zeros : Zeros start n before) where
-  one_zero : (m : ℕ) → m < n → f m ≡ 0 → put before start (listed (m + 1) f) ≡ put before start (listed m f)
-  one_zero m l z =
-      let e = listed_length m f in
-      let r = zeros.room in
-      let whole = length_put before start (listed m f) (omega arith) in
-      let same : at (put before start (listed m f)) (start + m) ≡ 0 = ap (at (put before start (listed m f))) (omega arith) ∙ put_beyond before start (listed m f) 0 (omega arith) ∙ ap (at before) (omega arith) ∙ zeros.zero_at m l in
-      ap (put before start) (listed_more m f) ∙ sym (put_put before start (start + m) (listed m f) (f m ∷ []) (omega arith) (omega arith))
-      ∙ sym (set_is_put (put before start (listed m f)) (start + m) (f m) (omega arith))
-      ∙ ap (set (put before start (listed m f)) (start + m)) (z ∙ sym same) ∙ set-get_or (put before start (listed m f)) (start + m) 0
+-- of xs, zs and rest, which were put at a place, zs is read and overwritten
+module _ (d : List ℕ) (place : ℕ) (xs zs rest : List ℕ) {next : ℕ} (room : place ≤ length d) (e : next ≡ place + length xs) where
+  abbrev front : List ℕ
+  front = take place d ++ xs
 
-  more_zeros : (m d : ℕ) → m + d ≤ n → ((k : ℕ) → m ≤ k → f k ≡ 0) → put before start (listed (m + d) f) ≡ put before start (listed m f)
-  more_zeros m zero l z = ap (λ (x : ℕ). put before start (listed x f)) (add-zero m)
-  more_zeros m (suc d) l z = ap (λ (x : ℕ). put before start (listed x f)) (omega arith) ∙ one_zero (m + d) (omega arith) (z (m + d) (omega arith)) ∙ more_zeros m d (omega arith) z
+  front_length : length front ≡ next
+  front_length = length-append (take place d) xs ∙ ap (λ (x : ℕ). x + length xs) (length-take-le place d room) ∙ sym e
 
-  -- where it was zero, all n coefficients stand
-  pub short_put_whole : {after : List ℕ} → ShortPut start n f before after → Puts start (listed n f) before after (start + n)
-  short_put_whole s = record {
-    written = s.written ∙ sym (ap (λ (x : ℕ). put before start (listed x f)) (let l = s.few in omega arith) ∙ more_zeros s.many (n - s.many) (let l = s.few in omega arith) s.none);
-    ends = ap (λ (x : ℕ). start + x) (sym (listed_length n f));
-  }
+  abbrev back : List ℕ → List ℕ
+  back ys = rest ++ drop (place + length (xs ++ (ys ++ rest))) d
 
--- what was put first is lost where as much is put again
-pub put_again : (d : List ℕ) (start : ℕ) (xs ys : List ℕ) → length xs ≡ length ys → start ≤ length d → put (put d start xs) start ys ≡ put d start ys
-unfolding put
-put_again d start xs ys e l =
-    let t : length (take start d) ≡ start = length-take-le start d l in
-    let p : List ℕ = take start d ++ xs in
-    let q : length p ≡ start + length ys = length-append (take start d) xs ∙ ap₂ ◌+◌ t e in
-    ap₂ (λ (a b : List ℕ). a ++ ys ++ b)
-    (ap (take start) (append_assoc (take start d) xs (drop (start + length xs) d)) ∙ take_at (take start d) (xs ++ drop (start + length xs) d) start t)
-    (drop_at p (drop (start + length xs) d) (start + length ys) q ∙ ap (λ (x : ℕ). drop (start + x) d) e)
+  split : (ys : List ℕ) → put d place (xs ++ (ys ++ rest)) ≡ front ++ (ys ++ back ys)
+  unfolding put
+  split ys = simp append_assoc refl
 
--- zeros put at start
-zeros_put : (d : List ℕ) (start m size : ℕ) → m ≤ size → start + m ≤ length d → Zeros start m (put d start (take m (replicate size 0)))
-unfolding put
-zeros_put d start m size l h =
-    let zs : List ℕ = take m (replicate size 0) in
-    let many : length zs ≡ m = length-take-le m (replicate size 0) (omega (arith, length-replicate {A = ℕ} size 0)) in
-    let front : length (take start d) ≡ start = length-take-le start d (omega arith) in
-    record {
-      room = omega (arith, length_put d start zs (omega arith));
-      zero_at = λ k g. ap (λ (x : List ℕ). get_or x (start + k) 0) (append_assoc (take start d) zs (drop (start + length zs) d))
-          ∙ ap (λ (x : ℕ). get_or (take start d ++ (zs ++ drop (start + length zs) d)) (x + k) 0) (sym front) ∙ get_or-append-add (take start d) (zs ++ drop (start + length zs) d) k 0
-          ∙ get_or-append zs (drop (start + length zs) d) 0 k (omega arith) ∙ get_or-take m (replicate size 0) k 0 g ∙ get_or-replicate size k 0 0 (omega arith);
-    }
+  part_read : {n : ℕ} → length zs ≡ n → take n (drop next (put d place (xs ++ (zs ++ rest)))) ≡ zs
+  part_read {n} h = rw (split zs, drop_at front (zs ++ back zs) next front_length) (take_at zs (back zs) n h)
 
-pub zeros_there : (size : ℕ) {start m end : ℕ} {d out : List ℕ} → Puts start (take m (replicate size 0)) d out end → m ≤ size → start + m ≤ length d → Zeros start m out
-zeros_there size {start} {m} {end} {d} p l h = subst (Zeros start m) (sym p.written) (zeros_put d start m size l h)
+  part_written : (ys : List ℕ) → length ys ≡ length zs → put (put d place (xs ++ (zs ++ rest))) next ys ≡ put d place (xs ++ (ys ++ rest))
+  unfolding put
+  part_written ys h =
+      rw (split zs, split ys, take_at front (zs ++ back zs) next front_length, ← append_assoc front zs (back zs), drop_at (front ++ zs) (back zs) (next + length ys) (omega (arith, front_length, length-append front zs)))
+      (append_assoc front ys (back zs) ∙ ap (λ (x : ℕ). front ++ (ys ++ (rest ++ drop (place + x) d))) (simp (length-append, h) refl))
 
--- a line of m entries of n bytes, put over zeros one after the other
-pub line_start : (t : ℕ → List ℕ) (start : ℕ) (before : List ℕ) → before ≡ put before start (joined 0 t)
-unfolding joined
-line_start t start before = sym (put_nothing before start)
+-- the first c of n entries of n coefficients, and zeros for the others
+pub line : (n : ℕ) → (ℕ → Coefficients) → ℕ → List ℕ
+line n f c = joined c (λ i. listed n (f i)) ++ zeros ((n - c) * n)
 
-module _ (t : ℕ → List ℕ) (m : ℕ) {start n : ℕ} {before : List ℕ} (long : (i : ℕ) → length (t i) ≡ n) (zeros : Zeros start (m * n) before) where
-  module _ {c : ℕ} {out : List ℕ} (l : c < m) (line : out ≡ put before start (joined c t)) where
-    many : length (joined c t) ≡ c * n
-    many = joined_rows_length n t long c
+module _ (n : ℕ) (f : ℕ → Coefficients) where
+  abbrev done : ℕ → List ℕ
+  done c = joined c (λ i. listed n (f i))
 
-    inside : c * n + n ≤ m * n
-    inside = let f = suc-mul c n in let h : suc c * n ≤ m * n = mul-le-mul {n₁ = suc c} {m₁ = n} {n₂ = m} {m₂ = n} l (omega arith) in omega arith
+  done_length : (c : ℕ) → length (done c) ≡ c * n
+  done_length = joined_rows_length n _ (λ i. listed_length n (f i))
 
-    whole : length out ≡ length before
-    whole = ap length line ∙ length_put before start (joined c t) (let r = zeros.room in let h = inside in let w = many in omega arith)
+  module _ (d : List ℕ) (place : ℕ) (room : place + n * n ≤ length d) where
+    pub line_start : {many : ℕ} {zs : List ℕ} → many ≡ n * n → zs ≡ zeros (length (take many (drop place d))) → take place d ++ (zs ++ drop many (drop place d)) ≡ put d place (line n f 0)
+    unfolding line joined
+    line_start {many} e z =
+        let whole : many ≡ (n - 0) * n = e ∙ ap (λ (x : ℕ). x * n) (omega arith) in
+        let taken : length (take many (drop place d)) ≡ many = length-take-le many (drop place d) (omega (arith, length-drop place d)) in
+        middle_is_put d place many _ _ (whole ∙ sym (length-replicate {A = ℕ} ((n - 0) * n) 0)) (z ∙ ap zeros (taken ∙ whole))
 
-    pub line_zeros : Zeros (start + c * n) n out
-    line_zeros =
-        let w = many in let h = inside in let r = zeros.room in let e = whole in
-        record {
-          room = omega arith;
-          zero_at = λ k g. ap (λ (s : List ℕ). at s (start + c * n + k)) line ∙ ap (at (put before start (joined c t))) (omega arith)
-              ∙ put_beyond before start (joined c t) k (omega arith) ∙ ap (at before) (omega arith) ∙ zeros.zero_at (c * n + k) (omega arith);
-        }
+    module _ {c : ℕ} {out : List ℕ} (l : c < n) (e : out ≡ put d place (line n f c)) where
+      abbrev later : List ℕ
+      later = zeros ((n - (c + 1)) * n)
 
-    pub line_turn : {after : List ℕ} {end : ℕ} → Puts (start + c * n) (t c) out after end → after ≡ put before start (joined (c + 1) t)
-    unfolding joined
-    line_turn more =
-        let w = many in let h = inside in let r = zeros.room in
-        more.written ∙ ap (λ (d : List ℕ). put d (start + c * n) (t c)) line ∙ put_put before start (start + c * n) (joined c t) (t c) (omega arith) (omega arith)
-        ∙ ap (λ (x : ℕ). put before start (joined x t)) (sym (add-one c))
+      one_more : zeros ((n - c) * n) ≡ zeros n ++ later
+      one_more = ap zeros (ap (λ (x : ℕ). x * n) (omega arith) ∙ suc-mul (n - (c + 1)) n ∙ add_comm _ n) ∙ sym (replicate-append-replicate {A = ℕ} n ((n - (c + 1)) * n) 0)
 
--- all m entries, over zeros that were put there
-pub line_end : (t : ℕ → List ℕ) {start m n c end : ℕ} (zs : List ℕ) {d between out : List ℕ} → ((i : ℕ) → length (t i) ≡ n) → length zs ≡ m * n → start + m * n ≤ length d → c ≤ m → m ≤ c
-    → Puts start zs d between end → out ≡ put between start (joined c t) → Puts start (joined m t) d out end
-line_end t {start} {m} {n} {c} {end} zs {d} long many room a b first line =
-    let w = joined_rows_length n t long m in
-    record {
-      written = line ∙ ap₂ (λ (y : List ℕ) (x : ℕ). put y start (joined x t)) first.written (omega arith) ∙ put_again d start zs (joined m t) (omega arith) (omega arith);
-      ends = first.ends ∙ ap (λ (x : ℕ). start + x) (omega arith);
+      parts : out ≡ put d place (done c ++ (zeros n ++ later))
+      unfolding line
+      parts = e ∙ ap (λ (z : List ℕ). put d place (done c ++ z)) one_more
+
+      starts : place + c * n ≡ place + length (done c)
+      starts = ap (λ (x : ℕ). place + x) (sym (done_length c))
+
+      line_zeros : {many : ℕ} → many ≡ n → take many (drop (place + c * n) out) ≡ zeros n
+      line_zeros h = rw (h, parts) (part_read d place (done c) (zeros n) later (omega arith) starts (length-replicate {A = ℕ} n 0))
+
+      pub line_turn : {many : ℕ} {entry : List ℕ} → many ≡ n → length entry ≡ length (take many (drop (place + c * n) out)) → ShortPut (f c) (take many (drop (place + c * n) out)) entry
+          → take (place + c * n) out ++ (entry ++ drop many (drop (place + c * n) out)) ≡ put d place (line n f (c + 1))
+      unfolding line joined
+      line_turn {many} {entry} h kept s =
+          let zero = line_zeros h in
+          let whole = short_put_whole (kept ∙ ap length zero ∙ length-replicate {A = ℕ} n 0) (subst (λ (b : List ℕ). ShortPut (f c) b entry) zero s) in
+          middle_is_put out (place + c * n) many (listed n (f c)) entry (h ∙ sym (listed_length n (f c))) whole ∙ ap (λ (o : List ℕ). put o (place + c * n) (listed n (f c))) parts
+          ∙ part_written d place (done c) (zeros n) later (omega arith) starts (listed n (f c)) (listed_length n (f c) ∙ sym (length-replicate {A = ℕ} n 0))
+          ∙ ap (put d place) (sym (append_assoc (done c) (listed n (f c)) later) ∙ ap (λ (x : ℕ). done x ++ later) (sym (add-one c)))
+
+    pub line_end : {c : ℕ} {out : List ℕ} → c ≤ n → n ≤ c → out ≡ put d place (line n f c) → Puts place (done n) d out (place + n * n)
+    unfolding line
+    line_end {c} {out} a b e = record {
+      written = e ∙ ap (put d place) (ap₂ (λ (x y : ℕ). done x ++ zeros y) (omega arith) (ap (λ (x : ℕ). x * n) (omega arith) ∙ zero-mul n) ∙ append-nil (done n));
+      ends = ap (λ (x : ℕ). place + x) (sym (done_length n));
     }

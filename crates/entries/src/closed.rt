@@ -63,27 +63,27 @@ impl Factor {
 }
 
 impl Reduction<'_> {
-    // The coefficients of P, in row i and column c. Here and below they are put from `start` on, as far as they can be other than zero.
-    fn p_entry(&self, out: &mut [u8], start: usize, end: usize, i: usize, c: usize)
-        requires { (start + self.now.order.n ≤ length out.old) × (end < self.now.order.n) × (i < self.now.order.n) × (c < self.now.order.n) }
-        ensures { ShortPut start self.now.order.n (P_coefficient self.now.state.now.back end i c) out.old out.new }
+    // The coefficients of P, in row i and column c. Here and below they are put into the entry as far as they can be other than zero.
+    fn p_entry(&self, entry: &mut [u8], end: usize, i: usize, c: usize)
+        requires { (length entry.old ≡ self.now.order.n) × (end < self.now.order.n) × (i < self.now.order.n) × (c < self.now.order.n) }
+        ensures { ShortPut (P_coefficient self.now.state.now.back end i c) entry.old entry.new }
     {
         for row in i..end + 1 {
-            out[start + row - i] = self.state.back[row][c];
+            entry[row - i] = self.state.back[row][c];
         }
     }
 
     // The coefficients of the inverse of P, in row r and column i.
-    fn pi_entry(&self, out: &mut [u8], start: usize, r: usize, i: usize)
-        requires { (start + self.now.order.n ≤ length out.old) × (r < self.now.order.n) × (i < self.now.order.n) }
-        ensures { ShortPut start self.now.order.n (PI_coefficient self.now.modulus.p self.now.state.now.b self.now.state.now.t r i) out.old out.new }
+    fn pi_entry(&self, entry: &mut [u8], r: usize, i: usize)
+        requires { (length entry.old ≡ self.now.order.n) × (r < self.now.order.n) × (i < self.now.order.n) }
+        ensures { ShortPut (PI_coefficient self.now.modulus.p self.now.state.now.b self.now.state.now.t r i) entry.old entry.new }
     {
         let t = &self.state.t;
-        out[start] = t[r][i];
+        entry[0] = t[r][i];
         if is_head(&self.state.b, i) {
             return;
         }
-        out[start + 1] = opposite(t[r][i - 1], self.modulus.p);
+        entry[1] = opposite(t[r][i - 1], self.modulus.p);
     }
 
     // Row r of T times the polynomial of the block of row i, from coefficient k + 1 on, with the leading 1 first.
@@ -101,32 +101,32 @@ impl Reduction<'_> {
     }
 
     // The coefficients of Q, in row r and the column of row i, which begins a block.
-    fn head_entry(&self, out: &mut [u8], start: usize, end: usize, r: usize, i: usize)
-        requires { (start + self.now.order.n ≤ length out.old) × (end < self.now.order.n) × (r < self.now.order.n) × (i < self.now.order.n) }
-        ensures { ShortPut start self.now.order.n (head_sum self.now.modulus.p self.now.state.now.b self.now.state.now.t end r i) out.old out.new }
+    fn head_entry(&self, entry: &mut [u8], end: usize, r: usize, i: usize)
+        requires { (length entry.old ≡ self.now.order.n) × (end < self.now.order.n) × (r < self.now.order.n) × (i < self.now.order.n) }
+        ensures { ShortPut (head_sum self.now.modulus.p self.now.state.now.b self.now.state.now.t end r i) entry.old entry.new }
     {
         for row in i..end + 1 {
             let k = row - i;
-            out[start + k] = self.head_sum(end, r, i, k);
+            entry[k] = self.head_sum(end, r, i, k);
         }
     }
 
     // The coefficients of Q, in row r and column i.
-    fn q_entry(&self, out: &mut [u8], start: usize, end: usize, r: usize, i: usize)
-        requires { (start + self.now.order.n ≤ length out.old) × (end < self.now.order.n) × (r < self.now.order.n) × (i < self.now.order.n) }
-        ensures { ShortPut start self.now.order.n (Q_coefficient self.now.modulus.p self.now.state.now.b self.now.state.now.t end r i) out.old out.new }
+    fn q_entry(&self, entry: &mut [u8], end: usize, r: usize, i: usize)
+        requires { (length entry.old ≡ self.now.order.n) × (end < self.now.order.n) × (r < self.now.order.n) × (i < self.now.order.n) }
+        ensures { ShortPut (Q_coefficient self.now.modulus.p self.now.state.now.b self.now.state.now.t end r i) entry.old entry.new }
     {
         if is_head(&self.state.b, i) {
-            self.head_entry(out, start, end, r, i);
+            self.head_entry(entry, end, r, i);
             return;
         }
-        out[start] = opposite(self.state.t[r][i - 1], self.modulus.p);
+        entry[0] = opposite(self.state.t[r][i - 1], self.modulus.p);
     }
 
     // The coefficients of the inverse of Q, in row i, which begins no block, and column c.
-    fn multiple_entry(&self, out: &mut [u8], start: usize, end: usize, i: usize, c: usize)
-        requires { (start + self.now.order.n ≤ length out.old) × (end < self.now.order.n) × (i ≤ end) × (c < self.now.order.n) × (begins self.now.state.now.b i ≡ false) }
-        ensures { ShortPut start self.now.order.n (QI_coefficient self.now.modulus.p self.now.state.now.b self.now.state.now.back end i c) out.old out.new }
+    fn multiple_entry(&self, entry: &mut [u8], end: usize, i: usize, c: usize)
+        requires { (length entry.old ≡ self.now.order.n) × (end < self.now.order.n) × (i ≤ end) × (c < self.now.order.n) × (begins self.now.state.now.b i ≡ false) }
+        ensures { ShortPut (QI_coefficient self.now.modulus.p self.now.state.now.b self.now.state.now.back end i c) entry.old entry.new }
     {
         let f = &self.state.b;
         let ti = &self.state.back;
@@ -135,42 +135,42 @@ impl Reduction<'_> {
         let mut more = u32::from(self.modulus.p - ti[i - 1][c]);
         for row in i..end + 1 {
             let b = u32::from(opposite(f[row][end], self.modulus.p));
-            out[start + row - i] = self.modulus.remainder(more + b * scale);
+            entry[row - i] = self.modulus.remainder(more + b * scale);
             more = 0;
         }
-        out[start + end + 1 - i] = last;
+        entry[end + 1 - i] = last;
     }
 
     // The coefficients of the inverse of Q, in row i and column c.
-    fn qi_entry(&self, out: &mut [u8], start: usize, end: usize, i: usize, c: usize)
-        requires { (start + self.now.order.n ≤ length out.old) × (end < self.now.order.n) × (i ≤ end) × (c < self.now.order.n) }
-        ensures { ShortPut start self.now.order.n (QI_coefficient self.now.modulus.p self.now.state.now.b self.now.state.now.back end i c) out.old out.new }
+    fn qi_entry(&self, entry: &mut [u8], end: usize, i: usize, c: usize)
+        requires { (length entry.old ≡ self.now.order.n) × (end < self.now.order.n) × (i ≤ end) × (c < self.now.order.n) }
+        ensures { ShortPut (QI_coefficient self.now.modulus.p self.now.state.now.b self.now.state.now.back end i c) entry.old entry.new }
     {
         let ti = &self.state.back;
         if is_head(&self.state.b, i) {
-            out[start] = ti[end][c];
+            entry[0] = ti[end][c];
             return;
         }
         if ti[end][c] == 0 {
-            out[start] = opposite(ti[i - 1][c], self.modulus.p);
+            entry[0] = opposite(ti[i - 1][c], self.modulus.p);
             return;
         }
-        self.multiple_entry(out, start, end, i, c);
+        self.multiple_entry(entry, end, i, c);
     }
 
     // The coefficients of the entry (r, c) of P, Q or an inverse. Row i of F, whose block ends at `end`, belongs to row r of P and of the
     // inverse of Q, and to column c of the other two.
-    pub fn closed_entry(&self, out: &mut [u8], start: usize, factor: Factor, r: usize, c: usize)
-        requires { (start + self.now.order.n ≤ length out.old) × (r < self.now.order.n) × (c < self.now.order.n) }
-        ensures { ShortPut start self.now.order.n (closed_entry self.now.modulus.p self.now.state.now self.now.from self.now.last factor r c) out.old out.new }
+    pub fn closed_entry(&self, entry: &mut [u8], factor: Factor, r: usize, c: usize)
+        requires { (length entry.old ≡ self.now.order.n) × (r < self.now.order.n) × (c < self.now.order.n) }
+        ensures { ShortPut (closed_entry self.now.modulus.p self.now.state.now self.now.from self.now.last factor r c) entry.old entry.new }
     {
         let i = usize::from(self.from[factor.side(r, c)]);
         let end = usize::from(self.last[i]);
         match factor {
-            Factor::P => self.p_entry(out, start, end, i, c),
-            Factor::PInverse => self.pi_entry(out, start, r, i),
-            Factor::Q => self.q_entry(out, start, end, r, i),
-            Factor::QInverse => self.qi_entry(out, start, end, i, c),
+            Factor::P => self.p_entry(entry, end, i, c),
+            Factor::PInverse => self.pi_entry(entry, r, i),
+            Factor::Q => self.q_entry(entry, end, r, i),
+            Factor::QInverse => self.qi_entry(entry, end, i, c),
         }
     }
 

@@ -12,12 +12,8 @@ ghost use Rattle.payloads.specs.Written.{matrix_payload, diagonal_payload, polyn
 
 use certificate::records::{RECORDS, Record};
 use entries::closed::{Factor, Reduction};
-use forms::ORDER;
 use matrices::{Mat, Order, Row};
 use writing::{put_bytes, put_head};
-
-// The most bytes that a row of P, Q or an inverse has.
-const LINE: usize = ORDER * ORDER;
 
 // A row of a field matrix.
 fn put_row(out: &mut [u8], at: usize, row: &Row, order: Order) -> usize
@@ -58,10 +54,11 @@ fn put_line(out: &mut [u8], at: usize, form: &Reduction, factor: Factor, r: usiz
     ensures { Puts at (joined form.now.order.n (λ c. listed form.now.order.n (closed_entry form.now.modulus.p form.now.state.now form.now.from form.now.last factor r c))) out.old out.new result }
 {
     let n = form.order.n;
-    let zeros = [0u8; LINE];
-    let end = put_bytes(out, at, &zeros[..n * n]);
+    let end = at + n * n;
+    out[at..end].fill(0);
     for c in 0..n {
-        form.closed_entry(out, at + c * n, factor, r, c);
+        let start = at + c * n;
+        form.closed_entry(&mut out[start..start + n], factor, r, c);
     }
     end
 }

@@ -5,12 +5,12 @@ use Rattle.entries.specs.PutEntries.{coefficients_none, coefficients_more, coeff
 use Rattle.entries.proofs.closed.Reduction.p_entry.Goals as goal
 
 pub loop-row-init : goal.loop-row-init
-loop-row-init c = (search rules, coefficients_none _ _ _ (omega arith))
+loop-row-init c = (search rules, coefficients_none _ _ (omega arith))
 
 pub loop-row-preserved : goal.loop-row-preserved
 loop-row-preserved c =
     let l = c.loop-row in
-    (search rules, coefficients_more _ _ _ (l.row - c.args.i) l.invariant.1 (P_inside _ _ _ _ l.row (omega arith) (omega arith)) (omega arith) (omega arith) (omega arith))
+    (search rules, coefficients_more _ _ (l.row - c.args.i) l.invariant.1 (P_inside _ _ _ _ l.row (omega arith) (omega arith)) (omega arith) (omega arith) (omega arith))
 
 pub returns : goal.returns
-returns c = coefficients_end _ _ _ (c.loop-row.row - c.args.i) c.loop-row.invariant.1 (omega arith) (λ k h. P_short _ _ _ _ k (omega arith))
+returns c = coefficients_end (c.loop-row.row - c.args.i) c.loop-row.invariant.1 (omega arith) (λ k h. P_short _ _ _ _ k (omega arith))

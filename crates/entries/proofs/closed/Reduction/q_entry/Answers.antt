@@ -12,4 +12,4 @@ pub overflow_sub-i : goal.overflow_sub-i
 overflow_sub-i c = omega (arith, begins_not_first _ _ (sym c.is_head.ensures ∙ c.if-is_head.false))
 
 pub returns : goal.returns
-returns c = one_coefficient _ _ _ (c.opposite.ensures ∙ Q_first _ _ _ _ _ _ (sym c.is_head.ensures ∙ c.if-is_head.false)) (omega arith) (omega arith) (Q_short _ _ _ _ _ _ (sym c.is_head.ensures ∙ c.if-is_head.false))
+returns c = one_coefficient (c.opposite.ensures ∙ Q_first _ _ _ _ _ _ (sym c.is_head.ensures ∙ c.if-is_head.false)) (omega arith) (Q_short _ _ _ _ _ _ (sym c.is_head.ensures ∙ c.if-is_head.false))
