@@ -14,7 +14,7 @@ use Rattle.forms.specs.Tests.{ask_fine, then_fine, fine_then, each_fine, refuse_
 use Rattle.forms.specs.OneRecord.{content_asked}
 use Rattle.forms.proofs.OneRecord.{record_read}
 use Rattle.forms.specs.declared.Fault.{Fault}
-use Rattle.forms.specs.Reasons.{reason_of_number}
+use Rattle.forms.proofs.Reasons.{reason_of_number}
 use Rattle.forms.specs.declared.Reason.{Reason}
 use Rattle.forms.specs.declared.Reason.TheVariants.{BytesAfter}
 use Rattle.forms.specs.declared.Fault.TheVariants.{Form}

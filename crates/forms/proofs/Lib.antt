@@ -10,6 +10,8 @@ pub mod Rings
 pub mod Bounds
 pub mod RulesMean
 pub mod Uniqueness
+pub mod Reasons
+pub mod Promises
 pub mod Determined
 pub mod Verdicts
 pub mod Similarity

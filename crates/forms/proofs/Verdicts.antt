@@ -10,7 +10,7 @@ use Rattle.forms.specs.Words.{Certified, LaidOut}
 use Rattle.forms.specs.Operations.{analysis_asked, Analyses}
 use Rattle.forms.specs.OneRecord.{Bytes}
 use Rattle.forms.proofs.Layouts.{reading_laid_out, layout_of_reading, reading_of_layout, certificate_of_layout}
-use Rattle.forms.specs.Promises.{verdict_accepted, accepted_parts}
+use Rattle.forms.proofs.Promises.{verdict_accepted, accepted_parts}
 use Rattle.forms.proofs.RulesMean.{rules_mean}
 use Rattle.forms.proofs.Uniqueness.{frobenius_unique}
 use Rattle.forms.specs.declared.Refusal.{Refusal}

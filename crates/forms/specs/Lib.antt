@@ -17,8 +17,6 @@ pub mod InversesModulo
 pub mod Records
 pub mod OneRecord
 pub mod Findings
-pub mod Reasons
-pub mod Promises
 pub mod Rings
 pub mod Bounds
 pub mod Remainders

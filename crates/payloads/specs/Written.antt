@@ -67,9 +67,9 @@ abbrev pub certificate_of : Reduction → List ℕ → Certificate
 certificate_of form A = written form.modulus.p form.order.n A form.state.now form.from form.last
 
 -- what is laid out says of the matrix
-pub written_length : (form : Reduction) (A : List ℕ) → LaidOut (certificate_of form A) → length A ≡ form.order.n * form.order.n
+pub written_length : (p n : ℕ) (A : List ℕ) (s : State) (rows ends : List ℕ) → LaidOut (written p n A s rows ends) → length A ≡ n * n
 unfolding written
-written_length form A laid = (MA_residues (certificate_of form A) laid).many
+written_length p n A s rows ends laid = (MA_residues (written p n A s rows ends) laid).many
 
 pub field_small : (p n : ℕ) (m : Array) → 0 < p → FieldMatrix p n m → Small p m
 field_small p n m q h = record {

@@ -5,7 +5,7 @@ use Rattle.forms.specs.Answers.{Asked, fine, refuse}
 use Rattle.forms.specs.Reading.{reading, certificate_of}
 use Rattle.forms.specs.Rules.{rules, verdict_of, verdict}
 use Rattle.forms.specs.Operations.{Checks}
-use Rattle.forms.specs.Promises.{checks_verdict}
+use Rattle.forms.proofs.Promises.{checks_verdict}
 use Rattle.forms.specs.declared.Fault.{Fault}
 use Rattle.forms.specs.declared.Fault.TheVariants.{Rule}
 use Rattle.certificate.specs.ReadRecords.{read_of, error_is}

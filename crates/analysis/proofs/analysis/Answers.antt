@@ -1,7 +1,7 @@
 -- A refusal leaves the output as it was; else what is written is a certificate of the matrix.
 use Rattle.std.proofs.Common.{arith, refl, sym, ap, length, Ok}
 use Rattle.forms.specs.Primes.{prime_limited}
-use Rattle.forms.specs.Promises.{analyses_refused, analyses_written}
+use Rattle.forms.proofs.Promises.{analyses_refused, analyses_written}
 use Rattle.forms.proofs.LegalRequests.{asked_legal}
 use Rattle.certificate.specs.ReadRecords.{error_is}
 use Rattle.analysis.specs.Questions.{asked_room}

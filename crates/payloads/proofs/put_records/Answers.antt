@@ -26,7 +26,7 @@ put_head-start-requires c =
 pub put_payload-at-requires : goal.put_payload-at-requires
 unfolding written
 put_payload-at-requires c =
-    (written_length c.args.form.now c.args.matrix.now c.requires.1, payload_room (turn c.args.form.now c.args.matrix.now c.loop-kind-test.true c.requires.0 c.loop-kind.auto.out c.loop-kind.invariant.0 c.payload_size.ensures) c.put_head-start.ensures c.put_head-start.auto.out)
+    (written_length _ _ c.args.matrix.now _ _ _ c.requires.1, payload_room (turn c.args.form.now c.args.matrix.now c.loop-kind-test.true c.requires.0 c.loop-kind.auto.out c.loop-kind.invariant.0 c.payload_size.ensures) c.put_head-start.ensures c.put_head-start.auto.out)
 
 pub loop-kind-preserved : goal.loop-kind-preserved
 unfolding written

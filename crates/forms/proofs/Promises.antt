@@ -9,7 +9,7 @@ use Rattle.forms.specs.Words.{Certified, LaidOut}
 use Rattle.forms.specs.Operations.{analysis_asked, Analyses, Checks}
 use Rattle.forms.specs.Reciprocals.{reciprocal_asked, InverseOf, Reciprocates}
 use Rattle.forms.specs.Tests.{refuse_not_fine, each_number}
-use Rattle.forms.specs.Reasons.{refused_is, Reasoned, reading_reasoned, reciprocal_reasoned}
+use Rattle.forms.proofs.Reasons.{refused_is, Reasoned, reading_reasoned, reciprocal_reasoned}
 use Rattle.forms.specs.declared.Refusal.{Refusal}
 use Rattle.forms.specs.declared.Fault.{Fault}
 use Rattle.forms.specs.declared.Fault.TheVariants.{Form, Rule}
