@@ -152,7 +152,13 @@ clearing_turn p n j i m s u v y z x q = record {
   keeps = λ a w. q.keeps a (x.keeps a w);
 }
 
-pub pivot_ready : (p n j q d : ℕ) (m : List (List ℕ)) → 0 < p → Pivot p n j m q → InverseOf p (cell m q j % p) d → PlaceReady p n j j q d m
+-- a pivot of column j, at row q
+pub record PivotReady (p n j q : ℕ) (m : List (List ℕ)) : Type 0 where
+  pub low : j ≤ q
+  pub high : q < n
+  pub hit : cell m q j % p ≢ 0
+
+pub pivot_ready : (p n j q d : ℕ) (m : List (List ℕ)) → 0 < p → PivotReady p n j q m → InverseOf p (cell m q j % p) d → PlaceReady p n j j q d m
 pivot_ready p n j q d m positive h r = record {
   row = omega (arith, h.low, h.high);
   column = omega (arith, h.low, h.high);

@@ -5,7 +5,7 @@ ghost use Rattle.std.specs.Prelude.{◌≡◌, ◌<◌, T};
 ghost use Rattle.forms.specs.Numbers.{prime};
 ghost use Rattle.matrices.specs.Rows.{plus_row};
 ghost use Rattle.inversion.specs.RowAddition.{RowAdded};
-ghost use Rattle.inversion.specs.Inversion.{PlaceReady, PlacedIn, Pivot, Pivoted, Cleared, Inverted};
+ghost use Rattle.inversion.specs.Inversion.{PlaceReady, PlacedIn, PivotReady, Pivoted, Cleared, Inverted};
 ghost use Rattle.inversion.specs.Zeros.{zero_entries, is_zero};
 
 use forms::ORDER;
@@ -66,7 +66,7 @@ fn pivot(a: Mat, j: usize, order: Order, m: Modulus) -> Option<usize>
 
 // Column j becomes that of E, from the pivot in row q.
 fn clear(pair: Pair, j: usize, q: usize, order: Order, m: Modulus) -> Pair
-    requires { T (prime m.p) × Pivot m.p order.n j pair.m q }
+    requires { T (prime m.p) × PivotReady m.p order.n j q pair.m }
     ensures { Cleared m.p order.n j pair.m pair.s result.m result.s }
 {
     let d = reciprocal_of(pair.m[q][j] % m.p, m.p);

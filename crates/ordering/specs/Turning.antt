@@ -1,5 +1,5 @@
 -- The state turned by a table of places: the rows of the three matrices are overwritten from the front.
-use Rattle.std.specs.Prelude.{◌≡◌, refl, List, [], ℕ, ◌+◌, ◌≤◌, ◌<◌, get_or, set}
+use Rattle.std.specs.Prelude.{◌≡◌, refl, List, [], ℕ, ◌+◌, ◌≤◌, ◌<◌, length, get_or, set}
 use Rattle.std.proofs.Common.{sym, ◌∙◌, arith}
 use Rattle.std.proofs.Math.Decide.{dec_lt}
 use Rattle.forms.specs.Numbers.{order_limit}
@@ -7,7 +7,7 @@ use Rattle.matrices.specs.Filling.{filled, fill_start, fill_turn, fill_end, fill
 use Rattle.matrices.specs.Matrices.{cell, FieldRow, zero_row, zero_row_at}
 use Rattle.basis.specs.Overwriting.{overwritten_cell, overwritten_field}
 use Rattle.basis.specs.declared.steps.State.{State}
-use Rattle.basis.specs.State.{Array, Squares, field_row}
+use Rattle.basis.specs.State.{Array, field_row}
 use Rattle.ordering.specs.Orders.{Moved, RowsIn, InOrder, in_order, in_order_equal}
 use Rattle.ordering.specs.Rotation.{rotation, rotation_high, rotation_none, rotation_inside}
 
@@ -48,13 +48,13 @@ pub turned_start : (q : List ℕ) (s : State) → Turned 0 q s s
 turned_start q s = record { B = fill_start _ _; T = fill_start _ _; I = fill_start _ _ }
 
 -- one turn of the loop
-pub turned_turn : (t : ℕ) (q : List ℕ) (s r : State) (u v w : List ℕ) → Squares s → t < order_limit → Turned t q s r
+pub turned_turn : (t : ℕ) (q : List ℕ) (s r : State) (u v w : List ℕ) → t < length s.b → t < length s.t → t < length s.back → Turned t q s r
     → u ≡ picked q (get_or s.b (place q t) []) → v ≡ picked q (get_or s.t t []) → w ≡ get_or s.back (place q t) []
     → Turned (t + 1) q s (record { b = set r.b t u; t = set r.t t v; back = set r.back t w })
-turned_turn t q s r u v w h l x eu ev ew = record {
-  B = fill_turn _ t _ (omega (arith, h.B.tall)) x.B eu;
-  T = fill_turn _ t _ (omega (arith, h.T.tall)) x.T ev;
-  I = fill_turn _ t _ (omega (arith, h.I.tall)) x.I ew;
+turned_turn t q s r u v w b c d x eu ev ew = record {
+  B = fill_turn _ t _ b x.B eu;
+  T = fill_turn _ t _ c x.T ev;
+  I = fill_turn _ t _ d x.I ew;
 }
 
 -- a field matrix whose rows are overwritten so is one again

@@ -14,13 +14,13 @@ use Rattle.polynomials.specs.declared.Polynomial.{Polynomial}
 use Rattle.polynomials.specs.Canonical.{polynomial, Canonical}
 use Rattle.polynomials.specs.Taking.{TakenFrom, taken_canonical}
 use Rattle.polynomials.specs.Rule.{answer_is_test}
-use Rattle.rules.specs.Diagonal.{MonicPayload, CoefficientsOf, coefficient_small}
+use Rattle.rules.specs.Diagonal.{MonicPayload, HasCoefficients, coefficient_small}
 
--- x is taken from the n + 1 coefficients s of f_i
-module _ (p n : ℕ) (d : List ℕ) (h : MonicPayload p n d) {i : ℕ} {s : List ℕ} {x : Polynomial} (of : CoefficientsOf n d i s) (taken : TakenFrom s 0 (n + 1) x) where
+-- x is taken from s, which begins with the n + 1 coefficients of f_i
+module _ (p n : ℕ) (d : List ℕ) (h : MonicPayload p n d) {i : ℕ} {s : List ℕ} {x : Polynomial} (of : HasCoefficients n d i s) (taken : TakenFrom s 0 (n + 1) x) where
   pub taken_coefficients : (k : ℕ) → at x.coefficients k ≡ diagonal n d i k
   taken_coefficients k = elim (dec_le k n) [
-    | yes l ↦ taken.copied.inside k (omega arith) ∙ ap (at s) (zero-add k) ∙ of.coefficient k
+    | yes l ↦ taken.copied.inside k (omega arith) ∙ ap (at s) (zero-add k) ∙ of.coefficient k l
     | no l ↦ taken.copied.outside k (omega arith) ∙ sym (diagonal_short n d i k (omega arith))
   ]
 

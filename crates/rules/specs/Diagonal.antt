@@ -1,5 +1,5 @@
 -- The diagonal's polynomials among their bytes, their degrees as the last coefficients that are not zero, and the sum of these.
-use Rattle.std.specs.Prelude.{◌≡◌, refl, cond, List, ℕ, zero, suc, ◌+◌, ◌*◌, ◌^◌, ◌-◌, ◌≤◌, ◌<◌, T, eqb, ltb, length, take, drop, sum}
+use Rattle.std.specs.Prelude.{◌≡◌, refl, List, ℕ, zero, suc, ◌+◌, ◌*◌, ◌^◌, ◌-◌, ◌≤◌, ◌<◌, T, eqb, length, take, sum}
 use Rattle.std.proofs.Common.{◌∙◌, add-one, ap, ap₂, arith}
 use Rattle.std.proofs.Math.Path.{fun_ext}
 use Rattle.std.proofs.Math.Seq.{take-suc}
@@ -22,6 +22,13 @@ pub record MonicPayload (p n : ℕ) (d : List ℕ) : Type 0 where
 pub record CoefficientsOf (n : ℕ) (d : List ℕ) (i : ℕ) (s : List ℕ) : Type 0 where
   pub long : length s ≡ suc n
   pub coefficient : (k : ℕ) → at s k ≡ diagonal n d i k
+
+-- s begins with them
+pub record HasCoefficients (n : ℕ) (d : List ℕ) (i : ℕ) (s : List ℕ) : Type 0 where
+  pub coefficient : (k : ℕ) → k ≤ n → at s k ≡ diagonal n d i k
+
+pub has_coefficients : {n : ℕ} {d : List ℕ} {i : ℕ} {s : List ℕ} → CoefficientsOf n d i s → HasCoefficients n d i s
+has_coefficients of = record { coefficient = λ k l. of.coefficient k }
 
 -- the degrees of f_1 .. f_n, in code counted from 0
 abbrev pub Degrees : ℕ → List ℕ → List ℕ → Type 0
@@ -47,11 +54,11 @@ pub coefficients_from : (n : ℕ) (d : List ℕ) (i : ℕ) → HasRow d i (n + 1
 unfolding diagonal row_of
 coefficients_from n d i h = rw (add-one n) (let s = slice_coefficients (suc n) (i * suc n) d (rw (add-one n) at h) in record { long = s.0; coefficient = s.1 })
 
-pub coefficient_small : {p n : ℕ} {d : List ℕ} {i : ℕ} {s : List ℕ} → CoefficientsOf n d i s → ((k : ℕ) → at d k < p) → (k : ℕ) → k ≤ n → at s k < p
-coefficient_small {p} {n} {d} {i} h small k l = rw (h.coefficient k, diagonal_at n d i k (omega arith)) (small _)
+pub coefficient_small : {p n : ℕ} {d : List ℕ} {i : ℕ} {s : List ℕ} → HasCoefficients n d i s → ((k : ℕ) → at d k < p) → (k : ℕ) → k ≤ n → at s k < p
+coefficient_small {p} {n} {d} {i} h small k l = rw (h.coefficient k l, diagonal_at n d i k (omega arith)) (small _)
 
-pub monic_at : (n : ℕ) (d : List ℕ) (i m : ℕ) {s : List ℕ} → CoefficientsOf n d i s → m ≡ degree n (diagonal n d i) → eqb (at s m) 1 ≡ monic n (diagonal n d i)
-monic_at n d i m h e = ap (λ (x : ℕ). eqb x 1) (h.coefficient m ∙ ap (diagonal n d i) e)
+pub monic_at : (n : ℕ) (d : List ℕ) (i m : ℕ) {s : List ℕ} → HasCoefficients n d i s → m ≡ degree n (diagonal n d i) → eqb (at s m) 1 ≡ monic n (diagonal n d i)
+monic_at n d i m h e = ap (λ (x : ℕ). eqb x 1) (h.coefficient m (let l = degree_limited n (diagonal n d i) in omega arith) ∙ ap (diagonal n d i) e)
 
 -- the sum of the first n numbers of a list
 sum_is_total : (s : List ℕ) (n : ℕ) → n ≤ length s → sum (take n s) ≡ total n (at s)

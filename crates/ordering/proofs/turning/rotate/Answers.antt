@@ -1,6 +1,5 @@
 -- Nothing moves where m is k; elsewhere the rows of the three matrices are overwritten in the order of the table.
 use Rattle.std.proofs.Common.{rules, arith, refl}
-use Rattle.basis.proofs.Shapes.{squares}
 use Rattle.ordering.specs.Orders.{in_order_equal}
 use Rattle.ordering.specs.Turning.{in_order_none, rotation_place, rotation_places, turned_start, turned_turn, turned_end}
 use Rattle.ordering.proofs.turning.rotate.Goals as goal
@@ -26,7 +25,7 @@ bounds-s-q-in-loop-i c = c.rotation_of-q.ensures.1.inside c.loop-i.i (search rul
 pub loop-i-preserved : goal.loop-i-preserved
 loop-i-preserved c =
     let l = c.loop-i in
-    turned_turn _ _ c.args.s l.r _ _ _ (squares c.args.s c.well_formed.0.1.1) (search rules) l.invariant c.turn_row.ensures c.turn_row-in-loop-i.ensures refl
+    turned_turn _ _ c.args.s l.r _ _ _ (search rules) (search rules) (search rules) l.invariant c.turn_row.ensures c.turn_row-in-loop-i.ensures refl
 
 pub returns : goal.returns
 returns c =
