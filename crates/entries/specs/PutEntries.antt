@@ -1,4 +1,4 @@
--- Entries put into a line of the output that is zero before: only the coefficients that can be other than zero are put, and all of them stand.
+-- Entries put into a line of the output that was filled with zeros: only the coefficients that can be other than zero are put, and all of them stand.
 use Rattle.std.specs.Prelude.{◌≡◌, ℕ, ◌+◌, ◌*◌, ◌-◌, ◌≤◌, ◌<◌, length, take, drop, set, replicate}
 use Rattle.std.proofs.Math.Path.{refl, sym, ap}
 use Rattle.std.proofs.Common.{◌∙◌, ap₂, subst, add_comm, zero-mul, suc-mul, add-one, arith, length-append, length-drop, length-take-le, take_at, drop_at, ext_get_or}
@@ -34,10 +34,10 @@ coefficients_end k e l z = record { many = k; few = l; written = e; none = z }
 pub one_coefficient : {f : Coefficients} {before : List ℕ} {v : ℕ} → v ≡ f 0 → 1 ≤ length before → ((j : ℕ) → 1 ≤ j → f j ≡ 0) → ShortPut f before (set before 0 v)
 one_coefficient {f} {before} e l z = coefficients_end 1 (fill_turn before 0 f l (fill_start before f) e) l z
 
--- an entry of n zeros is all n coefficients afterwards
 abbrev pub zeros : ℕ → List ℕ
 zeros n = replicate n 0
 
+-- an entry of n zeros is all n coefficients afterwards
 pub short_put_whole : {n : ℕ} {f : Coefficients} {after : List ℕ} → length after ≡ n → ShortPut f (zeros n) after → after ≡ listed n f
 short_put_whole {n} {f} {after} e s = ext_get_or 0 after (listed n f) (e ∙ sym (listed_length n f)) (λ k l. ap (λ (x : List ℕ). at x k) s.written ∙ one k (omega arith) ∙ sym (listed_at n f k (omega arith)))
   where
