@@ -24,7 +24,7 @@ fn write(p: u8, n: u8, matrix: &[u8], out: &mut [u8]) -> usize
     requires { Legal p n matrix.now × (certificate_length n ≤ length out.old) }
     ensures { (result ≡ certificate_length n) × ((c : Certificate) × (out.new ≡ layout c ++ drop (certificate_length n) out.old) × LaidOut c × Certified p n matrix.now c) }
 {
-    let order = Order::new(n as usize);
+    let order = Order::new(usize::from(n));
     let modulus = Modulus::new(p);
     let state = reduce(field_matrix(matrix, order), order, modulus);
     let form = Reduction {

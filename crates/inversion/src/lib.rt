@@ -87,9 +87,7 @@ pub fn inverse(a: Mat, order: Order, m: Modulus) -> Option<Mat>
         s: identity(order),
     };
     for j in 0..order.n {
-        let Some(q) = pivot(pair.m, j, order, m) else {
-            return None;
-        };
+        let q = pivot(pair.m, j, order, m)?;
         pair = clear(pair, j, q, order, m);
     }
     Some(pair.s)

@@ -50,13 +50,13 @@ fn trimmed(coefficients: [u8; COEFFICIENTS]) -> Polynomial
     Polynomial { coefficients, len }
 }
 
-// The polynomial whose coefficients are the `count` bytes of s from `from` on.
-pub fn from_coefficients(s: &[u8], from: usize, count: usize) -> Polynomial
-    requires { (from + count ≤ length s.now) × (count ≤ coefficient_limit) }
-    ensures { TakenFrom s.now from count result }
+// The polynomial with these coefficients.
+pub fn from_coefficients(s: &[u8]) -> Polynomial
+    requires { length s.now ≤ coefficient_limit }
+    ensures { TakenFrom s.now 0 (length s.now) result }
 {
     let mut coefficients = [0u8; COEFFICIENTS];
-    coefficients[..count].copy_from_slice(&s[from..from + count]);
+    coefficients[..s.len()].copy_from_slice(s);
     trimmed(coefficients)
 }
 

@@ -1,6 +1,6 @@
 -- Rule 2 in code: the polynomials that are taken from the payload of D are its entries, and the test of divisibility is the rule's.
-use Rattle.std.specs.Prelude.{◌≡◌, ◌↔◌, Bool, List, ℕ, suc, ◌+◌, ◌<◌, T}
-use Rattle.std.proofs.Common.{sym, ◌∙◌, ap, arith, zero-add}
+use Rattle.std.specs.Prelude.{◌≡◌, ◌↔◌, Bool, List, ℕ, suc, ◌+◌, ◌<◌, T, length}
+use Rattle.std.proofs.Common.{sym, ◌∙◌, ap, arith, zero-add, subst, add-one}
 use Rattle.std.proofs.Math.Decide.{dec_lt, dec_le}
 use Rattle.algebra.specs.Divides.{Divides}
 use Rattle.algebra.specs.Polynomial.{polynomials}
@@ -14,7 +14,11 @@ use Rattle.polynomials.specs.declared.Polynomial.{Polynomial}
 use Rattle.polynomials.specs.Canonical.{polynomial, Canonical}
 use Rattle.polynomials.specs.Taking.{TakenFrom, taken_canonical}
 use Rattle.polynomials.specs.Rule.{answer_is_test}
-use Rattle.rules.specs.Diagonal.{MonicPayload, HasCoefficients, coefficient_small}
+use Rattle.rules.specs.Diagonal.{MonicPayload, CoefficientsOf, HasCoefficients, coefficient_small}
+
+-- a polynomial taken from the whole of the n + 1 coefficients
+pub taken_whole : {n : ℕ} {d : List ℕ} {i : ℕ} {s : List ℕ} {x : Polynomial} → CoefficientsOf n d i s → TakenFrom s 0 (length s) x → TakenFrom s 0 (n + 1) x
+taken_whole {n} {d} {i} {s} {x} of taken = subst (λ k. TakenFrom s 0 k x) (of.long ∙ sym (add-one n)) taken
 
 -- x is taken from s, which begins with the n + 1 coefficients of f_i
 module _ (p n : ℕ) (d : List ℕ) (h : MonicPayload p n d) {i : ℕ} {s : List ℕ} {x : Polynomial} (of : HasCoefficients n d i s) (taken : TakenFrom s 0 (n + 1) x) where

@@ -80,8 +80,8 @@ impl<'a> Diagonal<'a> {
         requires { MonicPayload m.p self.now.order.n self.now.bytes.now × (suc i < self.now.order.n) }
         ensures { result ≡ divides m.p self.now.order.n (diagonal self.now.order.n self.now.bytes.now i) (diagonal self.now.order.n self.now.bytes.now (suc i)) }
     {
-        let f = from_coefficients(self.polynomial(i), 0, self.order.n + 1);
-        let g = from_coefficients(self.polynomial(i + 1), 0, self.order.n + 1);
+        let f = from_coefficients(self.polynomial(i));
+        let g = from_coefficients(self.polynomial(i + 1));
         polynomials::divides(f, g, m)
     }
 

@@ -1,5 +1,5 @@
 -- The elimination and the tables of its blocks give a certificate, and its layout is what the records are.
-use Rattle.std.proofs.Common.{◌≡◌, ℕ, List, ◌++◌, drop, arith}
+use Rattle.std.proofs.Common.{◌≡◌, ℕ, List, ◌++◌, drop, arith, ◌∙◌}
 use Rattle.forms.specs.Certificate.{Certificate, layout, certificate_length}
 use Rattle.forms.specs.Words.{LaidOut, Certified}
 use Rattle.forms.specs.LegalRequests.{Legal}
@@ -39,16 +39,16 @@ new-modulus-requires c = prime_positive c.args.p c.requires.0.prime_p
 
 pub reduce-state-requires : goal.reduce-state-requires
 reduce-state-requires c =
-    let legal = legal_in c.new-modulus.ensures c.new-order.ensures c.requires.0 in
+    let legal = legal_in c.new-modulus.ensures (c.new-order.ensures ∙ c.from.ensures) c.requires.0 in
     (legal.prime_p, rw c.field_matrix.ensures (loaded_field _ _ _ legal.residues))
 
 pub put_records-requires : goal.put_records-requires
 put_records-requires c =
-    let legal = legal_in c.new-modulus.ensures c.new-order.ensures c.requires.0 in
-    (rw c.new-order.ensures c.requires.1, (certifies legal c.field_matrix.ensures c.reduce-state.ensures c.order.ensures c.last_rows.ensures).1)
+    let legal = legal_in c.new-modulus.ensures (c.new-order.ensures ∙ c.from.ensures) c.requires.0 in
+    (rw (c.new-order.ensures ∙ c.from.ensures) c.requires.1, (certifies legal c.field_matrix.ensures c.reduce-state.ensures c.order.ensures c.last_rows.ensures).1)
 
 pub returns : goal.returns
 returns c =
-    let legal = legal_in c.new-modulus.ensures c.new-order.ensures c.requires.0 in
+    let legal = legal_in c.new-modulus.ensures (c.new-order.ensures ∙ c.from.ensures) c.requires.0 in
     let (reduced, laid, certified) = certifies legal c.field_matrix.ensures c.reduce-state.ensures c.order.ensures c.last_rows.ensures in
-    written_of c.args.out.now _ c.new-modulus.ensures c.new-order.ensures c.put_records.ensures.0 c.put_records.ensures.1 laid certified
+    written_of c.args.out.now _ c.new-modulus.ensures (c.new-order.ensures ∙ c.from.ensures) c.put_records.ensures.0 c.put_records.ensures.1 laid certified

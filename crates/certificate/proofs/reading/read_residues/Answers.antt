@@ -18,9 +18,3 @@ pub loop-i-preserved : goal.loop-i-preserved
 loop-i-preserved c =
     let a = c.args in
     (search rules, next_residue a.p a.c.at a.s.now c.loop-i.i c.loop-i.invariant.1 c.if-p-s.false)
-
-pub returns : goal.returns
-returns c =
-    let a = c.args in
-    let all : c.loop-i.i ≡ a.size = omega arith in
-    ap (λ (q : Asked). read_of q (a.c.at + a.size)) (sym (ap (λ (i : ℕ). residues_asked a.p a.c.at i a.s.now) (sym all) ∙ c.loop-i.invariant.1))

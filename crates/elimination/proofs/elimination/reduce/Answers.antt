@@ -28,15 +28,9 @@ pub returns-then-is_scalar : goal.returns-then-is_scalar
 returns-then-is_scalar c = reduced _ _ c.args.a c.loop-k.s c.loop-k.invariant.1
     (all_blocks _ _ _ _ _ c.loop-k.invariant.0 c.loop-k.invariant.2 (scalar_window _ _ _ _ c.args.order.limited c.loop-k.invariant.0 (c.is_scalar.ensures c.if-is_scalar.true)))
 
-pub split-c-requires : goal.split-c-requires
-split-c-requires c = (record { order = c.args.order.limited; fits = c.loop-k.invariant.0; prime_p = c.requires.0; fields = c.loop-k.invariant.1 }, search rules, c.loop-k.invariant.2.window)
-
 pub loop-k-preserved : goal.loop-k-preserved
 loop-k-preserved c = (
   omega (arith, c.loop-k.invariant.0),
   c.rotate-next.ensures.fields _ c.split-c.ensures.0,
   stage_next _ _ _ _ _ c.loop-k.s c.split-c.result c.rotate-next.result c.loop-k.invariant.0 c.loop-k.invariant.2 (found (goal.at.loop-k-preserved c).After-reach-length) c.rotate-next.ensures,
 )
-
-pub returns : goal.returns
-returns c = let e : c.loop-k.k ≡ 0 = omega arith in reduced _ _ c.args.a c.loop-k.s c.loop-k.invariant.1 (rw e at c.loop-k.invariant.2)

@@ -10,18 +10,6 @@ returns-then-m-k c = in_order_none _ _ _ c.args.s c.if-m-k.true
 pub loop-i-init : goal.loop-i-init
 loop-i-init c = turned_start _ _
 
-pub offset_bounds-s-q : goal.offset_bounds-s-q
-offset_bounds-s-q c = omega (arith, c.rotation_of-q.ensures.1.inside c.loop-i.i (search rules))
-
-pub bounds-s-q : goal.bounds-s-q
-bounds-s-q c = c.rotation_of-q.ensures.1.inside c.loop-i.i (search rules)
-
-pub offset_bounds-s-q-in-loop-i : goal.offset_bounds-s-q-in-loop-i
-offset_bounds-s-q-in-loop-i c = omega (arith, c.rotation_of-q.ensures.1.inside c.loop-i.i (search rules))
-
-pub bounds-s-q-in-loop-i : goal.bounds-s-q-in-loop-i
-bounds-s-q-in-loop-i c = c.rotation_of-q.ensures.1.inside c.loop-i.i (search rules)
-
 pub loop-i-preserved : goal.loop-i-preserved
 loop-i-preserved c =
     let l = c.loop-i in

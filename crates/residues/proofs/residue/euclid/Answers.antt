@@ -7,15 +7,6 @@ use Rattle.residues.proofs.residue.euclid.Goals as goal
 pub loop-b-init : goal.loop-b-init
 loop-b-init c = rw (c.from-modulus.ensures, c.from-b.ensures) (euclid_start (prime_means _ c.requires.0) c.requires.1 c.requires.2)
 
-pub overflow_mul-next : goal.overflow_mul-next
-overflow_mul-next c = rw c.from-modulus.ensures (omega (arith, euclid_fits (prime_means c.args.p c.requires.0) c.loop-b.invariant (omega arith)))
-
-pub overflow_add-next : goal.overflow_add-next
-overflow_add-next c = rw c.from-modulus.ensures (omega (arith, euclid_fits (prime_means c.args.p c.requires.0) c.loop-b.invariant (omega arith)))
-
-pub loop-b-smaller : goal.loop-b-smaller
-loop-b-smaller c = mod-lt c.loop-b.a (omega arith)
-
 pub loop-b-preserved : goal.loop-b-preserved
 loop-b-preserved c = rw c.from-modulus.ensures (euclid_step (prime_means c.args.p c.requires.0) c.loop-b.invariant (omega arith))
 

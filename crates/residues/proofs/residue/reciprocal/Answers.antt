@@ -24,8 +24,5 @@ overflow_cast-x c = omega (arith, prime_limited _ (passes c.args.p c.is_prime.en
 pub overflow_cast-p : goal.overflow_cast-p
 overflow_cast-p c = omega (arith, prime_limited _ (passes c.args.p c.is_prime.ensures c.if-not-is_prime.false))
 
-pub reciprocal_of-requires : goal.reciprocal_of-requires
-reciprocal_of-requires c = ((passes c.args.p c.is_prime.ensures c.if-not-is_prime.false), omega arith)
-
 pub returns : goal.returns
 returns c = residue_answered (told c.args.p c.is_prime.ensures c.if-not-is_prime.false) (omega arith) c.reciprocal_of.ensures

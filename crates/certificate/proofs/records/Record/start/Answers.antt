@@ -36,9 +36,3 @@ loop-record-preserved c =
     let i = c.loop-record.record-index in
     let sum : c.loop-record.start + (4 + c.payload_size.result) ≡ offset c.args.n i + 4 + size c.args.n i = omega (arith, added c) in
     sum ∙ sym (offset_next c.args.n i)
-
-pub returns : goal.returns
-returns c =
-    let e = first_records c.number.result (few c.args.self c.number.ensures) in
-    let all : c.loop-record.record-index ≡ number_of c.args.self = omega arith in
-    c.loop-record.invariant ∙ ap (offset c.args.n) all
