@@ -35,7 +35,7 @@ pub fn byte(s: &[u8], k: usize) -> u8
 fn stated_length(low: u8, high: u8) -> usize
     ensures { result ≡ low + 256 * high }
 {
-    usize::from(low) + 256 * usize::from(high)
+    usize::from(u16::from_le_bytes([low, high]))
 }
 
 // The mark and the length of a record, and that its payload is complete: the cursor goes to the payload.

@@ -23,9 +23,6 @@ pub fn put_head(out: &mut [u8], at: usize, kind: Record, size: usize) -> usize
     ensures { Puts at (head_bytes (number_of kind) size) out.old out.new result }
 {
     let mark = kind.mark();
-    put_bytes(
-        out,
-        at,
-        &[mark[0], mark[1], (size % 256) as u8, (size / 256) as u8],
-    )
+    let length = (size as u16).to_le_bytes();
+    put_bytes(out, at, &[mark[0], mark[1], length[0], length[1]])
 }
