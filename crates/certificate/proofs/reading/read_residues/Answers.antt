@@ -1,7 +1,7 @@
 -- The loop: the first i bytes are residues.
-use Rattle.std.proofs.Common.{rules, arith, ◌≡◌, sym, ◌∙◌, ap, ℕ, ◌+◌}
+use Rattle.std.proofs.Common.{rules, sym, ◌∙◌, ap, ◌+◌}
 use Rattle.forms.specs.Answers.{Asked}
-use Rattle.certificate.specs.ReadRecords.{read_of, residues_asked, no_residues, next_residue, no_residue}
+use Rattle.certificate.specs.ReadRecords.{read_of, no_residues, next_residue, no_residue}
 use Rattle.certificate.proofs.reading.read_residues.Goals as goal
 
 pub loop-i-init : goal.loop-i-init

@@ -1,5 +1,5 @@
 -- The loop keeps the stage: the window [0,k), and the blocks behind it.
-use Rattle.std.proofs.Common.{rules, arith, ◌≡◌, refl}
+use Rattle.std.proofs.Common.{rules, arith, refl}
 use Rattle.algebra.specs.Modular.{modulo}
 use Rattle.basis.specs.State.{frame}
 use Rattle.matrices.specs.Matrices.{matrix_within}

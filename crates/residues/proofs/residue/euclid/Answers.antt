@@ -1,7 +1,7 @@
 -- The loop keeps what `Euclid` says of the two remainders, and the second falls.
-use Rattle.std.proofs.Common.{arith, mod-lt}
+use Rattle.std.proofs.Common.{arith}
 use Rattle.forms.specs.Primes.{prime_means}
-use Rattle.residues.specs.Euclid.{euclid_start, euclid_fits, euclid_step, euclid_end}
+use Rattle.residues.specs.Euclid.{euclid_start, euclid_step, euclid_end}
 use Rattle.residues.proofs.residue.euclid.Goals as goal
 
 pub loop-b-init : goal.loop-b-init

@@ -1,5 +1,5 @@
 -- The three searches in turn: what has failed stays the answer.
-use Rattle.verdict.specs.NineRules.{searched_held, searched_stays}
+use Rattle.verdict.specs.NineRules.{searched_stays}
 use Rattle.verdict.proofs.check.failing_rule.Goals as goal
 
 pub returns-in_err-diagonal_rules : goal.returns-in_err-diagonal_rules
