@@ -87,7 +87,9 @@ pub fn inverse(a: Mat, order: Order, m: Modulus) -> Option<Mat>
         s: identity(order),
     };
     for j in 0..order.n {
-        let q = pivot(pair.m, j, order, m)?;
+        let Some(q) = pivot(pair.m, j, order, m) else {
+            return None;
+        };
         pair = clear(pair, j, q, order, m);
     }
     Some(pair.s)

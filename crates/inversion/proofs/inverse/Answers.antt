@@ -6,8 +6,8 @@ use Rattle.inversion.proofs.inverse.Goals as goal
 pub loop-j-init : goal.loop-j-init
 loop-j-init c = eliminating_start _ _ _ _ (prime_means _ c.requires).large c.identity.ensures
 
-pub returns-in_err-q : goal.returns-in_err-q
-returns-in_err-q c = rw c.from_residual.ensures (eliminating_none _ _ _ _ _ _ (prime_means _ c.requires) c.loop-j-test.true c.in_err-q.ensures c.loop-j.invariant)
+pub returns-in_default : goal.returns-in_default
+returns-in_default c = eliminating_none _ _ _ _ _ _ (prime_means _ c.requires) c.loop-j-test.true c.in_default.ensures c.loop-j.invariant
 
 pub returns : goal.returns
 returns c = eliminating_end _ _ _ _ _ _ c.loop-j.auto.j-end c.loop-j-test.false c.loop-j.invariant
