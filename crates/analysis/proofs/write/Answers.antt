@@ -1,5 +1,5 @@
 -- The elimination and the tables of its blocks give a certificate, and its layout is what the records are.
-use Rattle.std.proofs.Common.{◌≡◌, ℕ, List, ◌++◌, drop, arith, ◌∙◌}
+use Rattle.std.proofs.Common.{◌≡◌, ℕ, List, ◌++◌, drop, ◌∙◌}
 use Rattle.forms.specs.Certificate.{Certificate, layout, certificate_length}
 use Rattle.forms.specs.Words.{LaidOut, Certified}
 use Rattle.forms.specs.LegalRequests.{Legal}
@@ -30,9 +30,6 @@ legal_in e f h = rw (e, f) h
 written_of : {p n q k many : ℕ} {A : List ℕ} (before after : List ℕ) {w : Certificate} → q ≡ p → k ≡ n → many ≡ certificate_length k → after ≡ layout w ++ drop (certificate_length k) before → LaidOut w → Certified q k A w
     → (many ≡ certificate_length n) × ((c : Certificate) × (after ≡ layout c ++ drop (certificate_length n) before) × LaidOut c × Certified p n A c)
 written_of before after {w} e f a b l h = (rw f at a, (w, rw f at b, l, rw (e, f) at h))
-
-pub new-order-requires : goal.new-order-requires
-new-order-requires c = omega (arith, c.requires.0.high)
 
 pub new-modulus-requires : goal.new-modulus-requires
 new-modulus-requires c = prime_positive c.args.p c.requires.0.prime_p

@@ -1,7 +1,7 @@
 -- The loop: the first i entries refuse nothing.
-use Rattle.std.proofs.Common.{arith, refl, sym, ◌≡◌, ◌∙◌, ap, ℕ, ◌≤◌, ◌<◌, length, ltb, ltb→lt, lt→ltb}
+use Rattle.std.proofs.Common.{arith, refl, sym, ◌≤◌, ◌<◌, ltb, ltb→lt, lt→ltb}
 use Rattle.forms.specs.Numbers.{at}
-use Rattle.forms.specs.Answers.{ask, each}
+use Rattle.forms.specs.Answers.{each}
 use Rattle.forms.specs.Tests.{fine_ask, refuse_ask, each_fine, refuse_each}
 use Rattle.certificate.specs.ReadRecords.{each_next}
 use Rattle.analysis.proofs.questions.entries_asked.Goals as goal
@@ -24,10 +24,3 @@ loop-i-preserved c =
     let a = c.args in
     let small : at a.matrix.now l.i < a.p = c.if-p-entry.false in
     each_next l.i _ l.invariant (fine_ask (ltb (at a.matrix.now l.i) a.p) 4 l.i (lt→ltb (at a.matrix.now l.i) a.p small))
-
-pub returns : goal.returns
-returns c =
-    let l = c.loop-i in
-    let a = c.args in
-    let all : length a.matrix.now ≡ l.i = omega arith in
-    sym (ap (λ (z : ℕ). each z (λ i. ask (ltb (at a.matrix.now i) a.p) 4 i)) all ∙ l.invariant)

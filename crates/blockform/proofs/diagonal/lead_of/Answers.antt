@@ -10,9 +10,6 @@ use Rattle.blockform.proofs.diagonal.lead_of.Goals.{After-exponent_of-sum}
 pub loop-i-init : goal.loop-i-init
 loop-i-init c = (sym (no_exponents _ _), omega arith)
 
-pub row-requires : goal.row-requires
-row-requires c = has_row _ _ _ _ c.requires.1 (omega arith)
-
 -- what exponent_of answers in the loop
 answered : (c : After-exponent_of-sum) → c.exponent_of-sum.result ≡ exponent (suc c.args.n) (diagonal c.args.n c.args.d.now c.loop-i.i)
 answered c =
