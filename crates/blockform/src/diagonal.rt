@@ -1,4 +1,4 @@
-// What the listing says of D: the degree of each polynomial, and the lead.
+// What the listing says of D besides its polynomials: the lead.
 ghost use Rattle.std.specs.Prelude.{◌≡◌, ◌+◌, ◌*◌, ◌-◌, ◌<◌, length};
 ghost use Rattle.forms.specs.Numbers.{at};
 ghost use Rattle.forms.specs.Polynomials.{degree, exponent};

@@ -2,7 +2,7 @@
 // place. Bytes behind the buffer would not change the answer (matrix_of_prefix).
 #![tactic(auto)]
 
-mod diagonal; // the degree of a polynomial, and the lead
+mod diagonal; // the lead
 mod listing; // what is printed
 
 ghost use Rattle.std.specs.Prelude.{◌≡◌, ◌≤◌, length};

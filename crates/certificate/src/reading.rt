@@ -121,7 +121,9 @@ fn read_records(s: &[u8], count: usize) -> Result<Cursor, Fault>
     Ok(c)
 }
 
-// A certificate: its ten records, and nothing after TI.
+// A certificate: its ten records, and nothing after TI. Put into a longer function, the loop over the residues takes up to twice the time
+// (docs/DECISIONS.md, "Reading is a function of its own in the compiled code").
+#[inline(never)]
 pub fn read_certificate(s: &[u8]) -> Result<Cursor, Fault>
     ensures { result ≡ read_of (reading s.now) (certificate_length (at s.now 5)) }
 {

@@ -3,3 +3,4 @@ pub mod Entries
 pub mod Listing
 pub mod PutRows
 pub mod PutEntries
+pub mod PutOverZeros

@@ -104,7 +104,7 @@ module _ (n : ℕ) (f : ℕ → Coefficients) where
       starts : place + c * n ≡ place + length (done c)
       starts = ap (λ (x : ℕ). place + x) (sym (done_length c))
 
-      line_zeros : {many : ℕ} → many ≡ n → take many (drop (place + c * n) out) ≡ zeros n
+      pub line_zeros : {many : ℕ} → many ≡ n → take many (drop (place + c * n) out) ≡ zeros n
       line_zeros h = rw (h, parts) (part_read d place (done c) (zeros n) later (omega arith) starts (length-replicate {A = ℕ} n 0))
 
       pub line_turn : {many : ℕ} {entry : List ℕ} → many ≡ n → length entry ≡ length (take many (drop (place + c * n) out)) → ShortPut (f c) (take many (drop (place + c * n) out)) entry

@@ -1,7 +1,7 @@
 -- How a promise is met: from the answer and the bytes alone, its number and place follow.
 use Rattle.std.specs.Prelude.{◌≡◌, refl, List, ◌++◌, ℕ, suc, length, drop, Result, Ok, Err}
 use Rattle.std.proofs.Common.{sym, ◌∙◌, ap, subst, arith}
-use Rattle.forms.specs.Answers.{Asked, fine, refuse, ◌then◌, asked_number, asked_place, reason_number, reason_of, refused_by, analysed_number, analysed_place, verdict_number, verdict_place, reciprocal_number, reciprocal_value}
+use Rattle.forms.specs.Answers.{Asked, fine, refuse, ◌then◌, asked_number, asked_place, reason_number, reason_of, refusal_of, refused_by, analysed_number, analysed_place, verdict_number, verdict_place, reciprocal_number, reciprocal_value}
 use Rattle.forms.specs.Certificate.{Certificate, layout, certificate_length}
 use Rattle.forms.specs.Reading.{reading, certificate_of}
 use Rattle.forms.specs.Rules.{rule, rules, verdict_of, verdict}
@@ -9,7 +9,7 @@ use Rattle.forms.specs.Words.{Certified, LaidOut}
 use Rattle.forms.specs.Operations.{analysis_asked, Analyses, Checks}
 use Rattle.forms.specs.Reciprocals.{reciprocal_asked, InverseOf, Reciprocates}
 use Rattle.forms.specs.Tests.{refuse_not_fine, each_number}
-use Rattle.forms.proofs.Reasons.{refused_is, Reasoned, reading_reasoned, reciprocal_reasoned}
+use Rattle.forms.proofs.Reasons.{refused_is, Reasoned, analysis_reasoned, reading_reasoned, reciprocal_reasoned}
 use Rattle.forms.specs.declared.Refusal.{Refusal}
 use Rattle.forms.specs.declared.Fault.{Fault}
 use Rattle.forms.specs.declared.Fault.TheVariants.{Form, Rule}
@@ -23,6 +23,12 @@ module _ (p n : ℕ) (A before after : List ℕ) (answer : Result ℕ Refusal) w
     number = ap analysed_number a ∙ ap asked_number (sym e);
     place = ap analysed_place a ∙ ap (λ (s : Asked). asked_place s (certificate_length n)) (sym e);
   }
+
+  -- the same of a number and a place
+  pub analyses_refused_by : (number place : ℕ) → analysis_asked p n A (length before) ≡ refuse number place → answer ≡ Err (refusal_of number place) → after ≡ before → Analyses p n A before after answer
+  analyses_refused_by number place e a b =
+      let h : reason_number (reason_of number) ≡ number = subst Reasoned e (analysis_reasoned p n A (length before)) in
+      analyses_refused (refusal_of number place) (e ∙ ap (λ (x : ℕ). refuse x place) (sym h)) a b
 
   pub analyses_written : analysis_asked p n A (length before) ≡ fine → answer ≡ Ok (certificate_length n) → (c : Certificate) → after ≡ layout c ++ drop (certificate_length n) before → LaidOut c → Certified p n A c → Analyses p n A before after answer
   analyses_written e a c b l h = record {

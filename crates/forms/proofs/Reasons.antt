@@ -3,8 +3,9 @@ use Rattle.std.specs.Prelude.{◌≡◌, refl, Bool, true, false, cond, List, �
 use Rattle.std.proofs.Common.{sym, ◌∙◌, ap, ap₂}
 use Rattle.forms.specs.Numbers.{at, prime}
 use Rattle.forms.specs.Answers.{Asked, fine, refuse, ◌then◌, ask, each, reason_number, reason_of, refusal_of, refused_by}
-use Rattle.forms.specs.Certificate.{size, offset}
+use Rattle.forms.specs.Certificate.{size, offset, certificate_length}
 use Rattle.forms.specs.Reading.{order_and_prime, marked, record_asked, records_asked, reading}
+use Rattle.forms.specs.Operations.{analysis_asked}
 use Rattle.forms.specs.Reciprocals.{reciprocal_asked}
 use Rattle.forms.specs.declared.Reason.{Reason}
 use Rattle.forms.specs.declared.Reason.TheVariants.{OrderOutOfRange, NotPrime, MatrixLength, EntryTooLarge, OutputTooShort, RecordIncomplete, WrongMark, WrongLength, ByteTooLarge, BytesAfter}
@@ -76,3 +77,12 @@ reading_reasoned s =
 pub reciprocal_reasoned : (p x : ℕ) → Reasoned (reciprocal_asked p x)
 unfolding reciprocal_asked
 reciprocal_reasoned p x = reasoned_then _ _ (reasoned_ask (prime p) 2 p refl) (reasoned_ask (ltb x p) 4 0 refl)
+
+pub analysis_reasoned : (p n : ℕ) (A : List ℕ) (room : ℕ) → Reasoned (analysis_asked p n A room)
+unfolding analysis_asked
+analysis_reasoned p n A room =
+    reasoned_then _ _
+    (reasoned_then _ _
+    (reasoned_then _ _ (limits_reasoned n p) (reasoned_ask (eqb (length A) (n * n)) 3 (length A) refl))
+    (reasoned_each (n * n) _ (λ i. reasoned_ask (ltb (at A i) p) 4 i refl)))
+    (reasoned_ask (leb (certificate_length n) room) 5 (certificate_length n) refl)

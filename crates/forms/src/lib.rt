@@ -1,5 +1,5 @@
-// The largest order, and the answers of the public operations as types. What each case of an answer means as a number and a place
-// stands in specs/Answers.antt.
+// The largest order, and what the public operations refuse by, as types. The numbers and the places of their answers stand in
+// specs/Answers.antt.
 #![tactic(auto)]
 
 ghost use Rattle.std.specs.Prelude.{◌≡◌};

@@ -81,11 +81,11 @@ pub record Ordered (m : List (List ℕ)) (n k : ℕ) (r : List ℕ) : Type 0 whe
   pub placed : (i : ℕ) → i < k → at r (place m n i) ≡ i
 
 module _ (m : List (List ℕ)) where
-  other_head : (i : ℕ) → begins m i ≡ true → other m i ≡ 0
+  pub other_head : (i : ℕ) → begins m i ≡ true → other m i ≡ 0
   unfolding other
   other_head i e = ap (λ (b : Bool). cond b 0 1) e
 
-  other_row : (i : ℕ) → begins m i ≡ false → other m i ≡ 1
+  pub other_row : (i : ℕ) → begins m i ≡ false → other m i ≡ 1
   unfolding other
   other_row i e = ap (λ (b : Bool). cond b 0 1) e
 

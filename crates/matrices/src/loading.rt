@@ -1,4 +1,4 @@
-// A field matrix by value, from its bytes row by row.
+// A field matrix by value, from its bytes row by row, and one row of bytes, of any width.
 ghost use Rattle.std.specs.Prelude.{◌≡◌, ◌+◌, ◌*◌, ◌<◌, length};
 ghost use Rattle.forms.specs.Numbers.{at};
 ghost use Rattle.matrices.specs.Filling.{filled};

@@ -1,4 +1,4 @@
--- A polynomial made of bytes that stand in a row: an array whose length is looked for, and a part of a slice that is copied first.
+-- A polynomial made of bytes that stand in a row: an array whose length is looked for, and a slice that is copied first.
 use Rattle.std.specs.Prelude.{◌≡◌, List, ℕ, ◌+◌, ◌≤◌, ◌<◌, length, replicate}
 use Rattle.std.proofs.Common.{arith}
 use Rattle.std.proofs.Math.Decide.{dec_lt}

@@ -1,4 +1,4 @@
--- Where entries of matrices stand among the bytes: inside their payload, and at small indices.
+-- Where entries of matrices stand among the bytes: inside their payload.
 use Rattle.std.specs.Prelude.{ℕ, suc, ◌+◌, ◌*◌, ◌≤◌, ◌<◌}
 use Rattle.std.proofs.Common.{suc-mul, mul-le-mul, le_refl, arith}
 use Rattle.forms.specs.Listed.{row_place}

@@ -3,3 +3,4 @@ pub mod Indices
 pub mod Products
 pub mod Lines
 pub mod Searches
+pub mod Coefficients

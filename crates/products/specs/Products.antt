@@ -1,7 +1,7 @@
 -- An entry of a product of polynomial matrices, as the loop over the inner index sums it.
-use Rattle.std.specs.Prelude.{◌≡◌, Bool, true, false, cond, List, ℕ, suc, ◌+◌, ◌*◌, ◌%◌, ◌≤◌, eqb, ltb, length, replicate, take, drop}
-use Rattle.std.proofs.Common.{sym, ◌∙◌, add-one, mul-le-mul, le_refl, le_antisymm, arith, ltb→lt, lt→ltb, length-take-le, length-drop, get_or-take, get_or-drop}
-use Rattle.std.proofs.Math.Path.{ap, fun_ext}
+use Rattle.std.specs.Prelude.{◌≡◌, Bool, true, false, cond, ◌&&◌, List, ℕ, suc, ◌+◌, ◌*◌, ◌%◌, ◌≤◌, eqb, ltb, length, replicate, take, drop}
+use Rattle.std.proofs.Common.{sym, ◌∙◌, add-one, mul-le-mul, le_refl, le_antisymm, arith, eqb→eq, ltb→lt, lt→ltb, length-take-le, length-drop, get_or-take, get_or-drop}
+use Rattle.std.proofs.Math.Path.{ap, ap₂, fun_ext}
 use Rattle.std.proofs.Math.Decide.{dec_lt}
 use Rattle.std.proofs.lemmas.List.{get_or-replicate, length-replicate}
 use Rattle.std.proofs.Math.ListN.{get_or-eq_default}
@@ -11,6 +11,7 @@ use Rattle.forms.specs.Matrices.{PolynomialEntries, polynomial_matrix, polynomia
 use Rattle.forms.specs.Tests.{cond_holds, cond_fails}
 use Rattle.forms.specs.Bounds.{Short, ShortEntries}
 use Rattle.products.specs.Indices.{Inside, entry_inside}
+use Rattle.products.specs.Searches.{every_equal, every_front}
 use Rattle.matrices.specs.Parts.{row_of, HasRow}
 use Rattle.products.specs.Sums.{term_limit, product_limit, room, Plus, products_convolution, products_small, total_small}
 
@@ -34,6 +35,17 @@ holding_plus after sums f g h p = record { long = p.long ∙ h.long; each = λ k
 -- two sums are equal modulo p in their first z coefficients
 abbrev pub same_modulo : ℕ → ℕ → Coefficients → Coefficients → Bool
 same_modulo p z f g = every z (λ k. eqb (f k % p) (g k % p))
+
+-- E has only a constant term, so an entry is compared with it in two parts
+unit_above : (i j k : ℕ) → polynomial_unit i j (suc k) ≡ 0
+unfolding polynomial_unit
+unit_above i j k = cond_fails (eqb (suc k) 0) _ 0 (λ t. (let e = eqb→eq (suc k) 0 t in omega arith))
+
+pub unit_by_parts : (p z i j : ℕ) (f : Coefficients) {u : ℕ} {constant above : Bool} → u ≡ polynomial_unit i j 0 → constant ≡ eqb (f 0 % p) (u % p) → above ≡ every z (λ k. eqb (f (1 + k) % p) (0 % p))
+    → (constant && above) ≡ same_modulo p (suc z) f (polynomial_unit i j)
+unit_by_parts p z i j f h e g =
+    ap₂ ◌&&◌ (e ∙ ap (λ (x : ℕ). eqb (f 0 % p) (x % p)) h) (g ∙ every_equal z _ _ (λ k l. ap₂ (λ (x y : ℕ). eqb (f x % p) (y % p)) (omega arith) (sym (unit_above i j k))))
+    ∙ sym (every_front z (λ k. eqb (f k % p) (polynomial_unit i j k % p)))
 
 -- the entry (i, j) of the product is that of E
 abbrev pub unit_test : ℕ → ℕ → List ℕ → List ℕ → ℕ → ℕ → Bool

@@ -28,12 +28,12 @@ every_equal zero t u h = refl
 every_equal (suc n) t u h = ap₂ ◌&&◌ (every_equal n t u (λ i l. h i (omega arith))) (h n (omega arith))
 
 -- the test of each number of a range, from the front
-every_front : (n : ℕ) (t : ℕ → Bool) → every (suc n) t ≡ (t 0 && every n (λ i. t (suc i)))
+pub every_front : (n : ℕ) (t : ℕ → Bool) → every (suc n) t ≡ (t 0 && every n (λ i. t (suc i)))
 unfolding every
 every_front zero t = sym (and-true (t 0))
 every_front (suc n) t = ap (λ (b : Bool). b && t (suc n)) (every_front n t) ∙ and_assoc (t 0) _ _
 
-every_from : (a n : ℕ) (t : ℕ → Bool) → list_all t (range_with_len a n) ≡ every n (λ i. t (a + i))
+pub every_from : (a n : ℕ) (t : ℕ → Bool) → list_all t (range_with_len a n) ≡ every n (λ i. t (a + i))
 unfolding every
 every_from a zero t = refl
 every_from a (suc n) t =

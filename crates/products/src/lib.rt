@@ -112,11 +112,12 @@ fn unit_coefficient(i: usize, j: usize, k: usize) -> u32
     u32::from(k == 0 && i == j)
 }
 
-// The first 2n + 1 coefficients are those of the entry (i, j) of E modulo p.
+// The first 2n + 1 coefficients are those of the entry (i, j) of E modulo p: only the constant term can be other than 0 there.
 fn is_unit_entry(sums: &Sums, i: usize, j: usize, order: Order, m: Modulus) -> bool
     ensures { result ≡ same_modulo m.p (suc (2 * order.n)) (at sums.now) (polynomial_unit i j) }
 {
-    (0..2 * order.n + 1).all(|k| is_congruent(sums[k], unit_coefficient(i, j, k), m))
+    is_congruent(sums[0], unit_coefficient(i, j, 0), m)
+        && (1..2 * order.n + 1).all(|k| is_congruent(sums[k], 0, m))
 }
 
 // The given rule, 4 or 5: left times right is E. The first wrong entry ends the search with the rule.

@@ -1,4 +1,4 @@
-// What both programs read from standard input, and write to standard output besides their answers.
+// How both programs read standard input, and print what refuses.
 #![tactic(auto)]
 
 ghost use Rattle.std.specs.Prelude.{◌≤◌, length, IfOk};

@@ -61,7 +61,7 @@ pub monic_at : (n : ℕ) (d : List ℕ) (i m : ℕ) {s : List ℕ} → HasCoeffi
 monic_at n d i m h e = ap (λ (x : ℕ). eqb x 1) (h.coefficient m (let l = degree_limited n (diagonal n d i) in omega arith) ∙ ap (diagonal n d i) e)
 
 -- the sum of the first n numbers of a list
-sum_is_total : (s : List ℕ) (n : ℕ) → n ≤ length s → sum (take n s) ≡ total n (at s)
+pub sum_is_total : (s : List ℕ) (n : ℕ) → n ≤ length s → sum (take n s) ≡ total n (at s)
 unfolding total
 sum_is_total s zero l = refl
 sum_is_total s (suc n) l = rw (take-suc s n 0) (sum_by_push (λ (x : ℕ). x) (take n s) (at s n) ∙ ap (λ (x : ℕ). x + at s n) (sum_is_total s n (omega arith)))

@@ -13,7 +13,7 @@ use polynomials::{degree_of, from_coefficients};
 use residues::modulus::Modulus;
 
 // The n + 1 coefficients of f_i.
-fn coefficients(bytes: &[u8], i: usize, order: Order) -> &[u8]
+pub fn coefficients(bytes: &[u8], i: usize, order: Order) -> &[u8]
     requires { (length bytes.now ≡ order.n * suc order.n) × (i < order.n) }
     ensures { CoefficientsOf order.n bytes.now i result.now }
 {
@@ -21,7 +21,7 @@ fn coefficients(bytes: &[u8], i: usize, order: Order) -> &[u8]
 }
 
 // The degrees of f1 .. fn.
-fn degrees_of(bytes: &[u8], order: Order) -> [usize; ORDER]
+pub fn degrees_of(bytes: &[u8], order: Order) -> [usize; ORDER]
     requires { length bytes.now ≡ order.n * suc order.n }
     ensures { Degrees order.n bytes.now result }
 {
@@ -30,6 +30,15 @@ fn degrees_of(bytes: &[u8], order: Order) -> [usize; ORDER]
         degrees[i] = degree_of(coefficients(bytes, i, order));
     }
     degrees
+}
+
+// Rule 3, of any table of degrees up to n.
+pub fn degrees_rule(degrees: &[usize; ORDER], order: Order) -> Result<(), u8>
+    requires { (i : ℕ) → i < order.n → at degrees.now i ≤ order.n }
+    ensures { result ≡ failing (eqb (total order.n (at degrees.now)) order.n) 3 }
+{
+    let sum: usize = degrees[..order.n].iter().sum();
+    if sum == order.n { Ok(()) } else { Err(3) }
 }
 
 // The payload of D: n polynomials of n + 1 coefficients, with their degrees.
@@ -102,7 +111,6 @@ impl<'a> Diagonal<'a> {
     pub fn degrees_rule(&self) -> Result<(), u8>
         ensures { result ≡ failing (eqb (total self.now.order.n (λ i. degree self.now.order.n (diagonal self.now.order.n self.now.bytes.now i))) self.now.order.n) 3 }
     {
-        let sum: usize = self.degrees[..self.order.n].iter().sum();
-        if sum == self.order.n { Ok(()) } else { Err(3) }
+        degrees_rule(&self.degrees, self.order)
     }
 }

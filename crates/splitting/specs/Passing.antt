@@ -14,7 +14,7 @@ use Rattle.basis.specs.declared.steps.State.{State}
 use Rattle.basis.specs.State.{Array, frame, frame_within, Given, prime_distinct, zero_entry, entry_nonzero, nonzero_entry, column_vector}
 use Rattle.ordering.specs.Orders.{InOrder}
 use Rattle.basis.specs.Searches.{column_of, column_of_at, FirstNonzero, Found}
-use Rattle.splitting.specs.Reaching.{HasPivot}
+use Rattle.splitting.specs.Reaching.{HasPivot, Reach}
 
 module _ (p n k j q : ℕ) (s : State) (g : Given p n k s) (r : Ready (modulo p) k j (frame p n s)) (l : q < k) (f : FirstNonzero (λ i. cell s.b i j) (j + 1) k q) where
   cell_zero : (i : ℕ) → j < i → i < q → matrix p n s.b i j ≡ (modulo p).zero
@@ -57,3 +57,16 @@ reach_pivot k j b None f e = absurd (false≢true e)
 
 pub reach_turn : (k j : ℕ) (b : Array) → ((i : ℕ) → i < j → HasPivot k b i) → HasPivot k b j → (i : ℕ) → i < j + 1 → HasPivot k b i
 reach_turn k j b h v i l = elim (ℕ_discrete j i) [ yes e ↦ subst (HasPivot k b) e v | no e ↦ h i (omega arith) ]
+
+-- a column without a pivot below its diagonal ends the reach behind it
+pub reach_stops : (k j q : ℕ) (b : Array) → j < k → FirstNonzero (λ i. cell b i j) (j + 1) k q → k ≤ q → ((i : ℕ) → i < j → HasPivot k b i) → Reach k b (j + 1)
+reach_stops k j q b l f h x = record {
+  some = omega arith;
+  fits = omega arith;
+  stop = λ i a c. ap (cell b i) (omega arith) ∙ f.zeros i a (omega arith);
+  on = λ i a. x i (omega arith);
+}
+
+-- pivots in all columns but the last reach to the end of the window
+pub reach_ends : (k j : ℕ) (b : Array) → j < k → k ≤ j + 1 → ((i : ℕ) → i < j → HasPivot k b i) → Reach k b k
+reach_ends k j b l h x = record { some = omega arith; fits = omega arith; stop = λ i a c. absurd (omega arith); on = λ i a. x i (omega arith) }

@@ -1,6 +1,7 @@
 -- What the tests of a window read off the matrix: that nothing is left behind the block of m, and how far its polynomial kills the basis vectors.
-use Rattle.std.specs.Prelude.{◌≡◌, ℕ, ◌≤◌, ◌<◌, Option, Some, None, MatchOption}
-use Rattle.std.proofs.Common.{arith}
+use Rattle.std.specs.Prelude.{◌≡◌, ℕ, ◌+◌, ◌≤◌, ◌<◌, Option, Some, None, MatchOption}
+use Rattle.std.proofs.Common.{subst, arith}
+use Rattle.std.proofs.Math.Decide.{ℕ_discrete}
 use Rattle.matrices.specs.Matrices.{cell}
 use Rattle.basis.specs.State.{Array}
 use Rattle.splitting.specs.Powers.{KillsUnit}
@@ -29,3 +30,15 @@ pub unkilled_in_range : (p n m from k : ℕ) (b : Array) (r : Option ℕ) → fr
     → MatchOption r ((t : ℕ) → from ≤ t → t < k → KillsUnit p n m b t) (λ i. (from ≤ i) × (i < k) × Unit {0} × ((t : ℕ) → from ≤ t → t < i → KillsUnit p n m b t)) → FoundUnkilled p n m from k b r
 unkilled_in_range p n m from k b (Some r) l h = (record { low = h.0; high = omega (arith, h.1); killed = h.3 }, h.1)
 unkilled_in_range p n m from k b None l h = record { low = l; high = omega arith; killed = h }
+
+-- no vector is passed at the start, and one more that is killed
+module _ (p n m from k : ℕ) (b : Array) where
+  pub unkilled_start : from ≤ k → FirstUnkilled p n m from k b from
+  unkilled_start h = record { low = omega arith; high = h; killed = λ t a l. absurd (omega arith) }
+
+  pub unkilled_turn : (j : ℕ) → j < k → FirstUnkilled p n m from k b j → KillsUnit p n m b j → FirstUnkilled p n m from k b (j + 1)
+  unkilled_turn j l x h = record {
+    low = omega (arith, x.low);
+    high = omega arith;
+    killed = λ t a g. elim (ℕ_discrete j t) [ yes e ↦ subst (KillsUnit p n m b) e h | no e ↦ x.killed t a (omega arith) ];
+  }
