@@ -1,7 +1,7 @@
 // What the listing says of D besides its polynomials: the lead.
-ghost use Rattle.std.specs.Prelude.{◌≡◌, ◌+◌, ◌*◌, ◌-◌, ◌<◌, length};
+ghost use Rattle.std.specs.Prelude.{◌≡◌, ◌+◌, ◌*◌, ◌<◌, length};
 ghost use Rattle.forms.specs.Numbers.{at};
-ghost use Rattle.forms.specs.Polynomials.{degree, exponent};
+ghost use Rattle.forms.specs.Polynomials.{exponent};
 ghost use Rattle.forms.specs.Matrices.{diagonal};
 ghost use Rattle.forms.specs.Frobenius.{lead};
 

@@ -1,7 +1,7 @@
 // D, P, Q and their inverses, entry by entry: read off F, T and the inverse of T, with no product of polynomials. Row i of F ends its block
 // at row `end`.
 ghost use Rattle.std.specs.Prelude.{◌≡◌, false, ◌+◌, ◌*◌, ◌-◌, ◌%◌, ◌≤◌, ◌<◌, length};
-ghost use Rattle.forms.specs.Numbers.{at, order_limit};
+ghost use Rattle.forms.specs.Numbers.{order_limit};
 ghost use Rattle.matrices.specs.Filling.{filled};
 ghost use Rattle.heads.specs.Heads.{begins};
 ghost use Rattle.entries.specs.PutEntries.{ShortPut};

@@ -61,13 +61,17 @@ pub monic_at : (n : ℕ) (d : List ℕ) (i m : ℕ) {s : List ℕ} → HasCoeffi
 monic_at n d i m h e = ap (λ (x : ℕ). eqb x 1) (h.coefficient m (let l = degree_limited n (diagonal n d i) in omega arith) ∙ ap (diagonal n d i) e)
 
 -- the sum of the first n numbers of a list
-pub sum_is_total : (s : List ℕ) (n : ℕ) → n ≤ length s → sum (take n s) ≡ total n (at s)
+sum_is_total : (s : List ℕ) (n : ℕ) → n ≤ length s → sum (take n s) ≡ total n (at s)
 unfolding total
 sum_is_total s zero l = refl
 sum_is_total s (suc n) l = rw (take-suc s n 0) (sum_by_push (λ (x : ℕ). x) (take n s) (at s n) ∙ ap (λ (x : ℕ). x + at s n) (sum_is_total s n (omega arith)))
 
+-- the same of what the code has summed, and of the degrees of D
+pub sum_total : (n : ℕ) (s : List ℕ) (x : ℕ) → n ≤ length s → x ≡ sum (take n s) → x ≡ total n (at s)
+sum_total n s x l e = e ∙ sum_is_total s n l
+
 pub degrees_sum : (n : ℕ) (d s : List ℕ) (x : ℕ) → Degrees n d s → n ≤ length s → x ≡ sum (take n s) → x ≡ total n (λ i. degree n (diagonal n d i))
-degrees_sum n d s x h l e = e ∙ sum_is_total s n l ∙ total_equal n _ _ h
+degrees_sum n d s x h l e = sum_total n s x l e ∙ total_equal n _ _ h
 
 total_bounded : (m n : ℕ) (f : ℕ → ℕ) → ((i : ℕ) → i < n → f i ≤ m) → total n f ≤ n * m
 unfolding total
